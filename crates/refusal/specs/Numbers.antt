@@ -1,0 +1,19 @@
+-- Document 01's number for each refusal.
+use Prim.Native.Nat.{ℕ}
+use Rattle.refusal.specs.declared.Refusal.{Refusal}
+use Rattle.refusal.specs.declared.Refusal.the-variants.{UnknownCode, UnknownRule, RuleNotOfCode, InputLength, WordTooShort, MessageSlack, TooManyPairs, OutputLength, WorkTooShort, PairLength, PairOrder, PairPastEnd, Malformed}
+
+abbrev pub numberOf : Refusal → ℕ
+numberOf UnknownCode = 1
+numberOf UnknownRule = 2
+numberOf RuleNotOfCode = 3
+numberOf InputLength = 4
+numberOf WordTooShort = 5
+numberOf MessageSlack = 6
+numberOf TooManyPairs = 7
+numberOf OutputLength = 8
+numberOf WorkTooShort = 9
+numberOf PairLength = 10
+numberOf PairOrder = 11
+numberOf PairPastEnd = 12
+numberOf Malformed = 13
