@@ -33,12 +33,16 @@ rowsFrom starts c flat = cut (getD starts c 0) (drop (c + 1) starts) flat
 abbrev pub rowsOf : List ℕ → List ℕ → Checks
 rowsOf starts flat = rowsFrom starts 0 flat
 
+-- each entry is below n
+unfoldable pub Below : ℕ → List ℕ → Type 0
+Below n ps = (k : ℕ) → k < length ps → getD ps k 0 < n
+
 -- the starts rise and stay within the flat list, whose entries are positions below n
 pub record FlatChecks (starts flat : List ℕ) (n : ℕ) : Type 0 where
   pub some : 0 < length starts
   pub few : length starts ≤ 65536
   pub within : (k : ℕ) → k + 1 < length starts → (getD starts k 0 ≤ getD starts (k + 1) 0) × (getD starts (k + 1) 0 ≤ length flat)
-  pub low : (k : ℕ) → k < length flat → getD flat k 0 < n
+  pub low : Below n flat
 
 -- the places at which p stands in a list whose first entry is at place e
 unfoldable pub places : ℕ → ℕ → List ℕ → List ℕ

@@ -1,13 +1,12 @@
 // Counting the unsatisfied checks of a word, for any check list that lies flat in arrays with starts.
 ghost use mathlib.Core.Path.{_≡_};
-ghost use Prim.Native.Nat.{ℕ, _<_};
-ghost use lib.ListN.{length, getD};
+ghost use lib.ListN.{length};
 ghost use Rattle.tanner.specs.Checks.{xorFrom, countMasked};
-ghost use Rattle.tanner.specs.Flat.{FlatChecks, rowsOf};
+ghost use Rattle.tanner.specs.Flat.{Below, FlatChecks, rowsOf};
 
 // The bytes at one check's positions, XORed whole.
 fn xor_at(positions: &[u16], bytes: &[u8]) -> u8
-    requires { ⌜ ((k : ℕ) → k < length (now positions) → getD (now positions) k 0 < length (now bytes)) ⌝ }
+    requires { ⌜ Below (length (now bytes)) (now positions) ⌝ }
     ensures { λ r. ⌜ r ≡ xorFrom 0 (now (positions .entry)) (now (bytes .entry)) ⌝ }
 {
     let mut x: u8 = 0;

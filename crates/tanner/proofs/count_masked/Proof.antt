@@ -6,7 +6,7 @@ use native.Mathlib.Omega.{arith}
 use lib.ListN.{length, drop, getD}
 use Rattle.tanner.specs.Checks.{countMasked}
 use Rattle.tanner.specs.Flat.{rowsFrom, rowsOf}
-use Rattle.tanner.proofs.Steps.{rows-more, rows-done}
+use Rattle.tanner.proofs.Steps.{part-below, count-more, count-same, count-done}
 use borrow.Author.Needs.{needs}
 use Rattle.tanner.proofs.count_masked.Statement.{statement}
 use Rattle.tanner.proofs.count_masked.Tie as tie
@@ -21,81 +21,77 @@ Inv-loop starts flat bytes mask unsatisfied₀ c₀ unsatisfied c =
 abbrev μ-loop : tie.MeasureT-loop
 μ-loop starts flat bytes mask unsatisfied₀ c₀ unsatisfied c = length starts - c
 
--- src/lib.rt:30:5
+-- in a turn: the bounds of the check's positions
+bounds : (c : tie.In-loop Inv-loop μ-loop) → let s = c .before .before .before .before .before .args .starts .now in
+    (getD s (c .before .loop .c) 0 ≤ getD s (c .before .loop .c + 1) 0)
+    × (getD s (c .before .loop .c + 1) 0 ≤ length (c .before .before .before .before .before .args .flat .now))
+bounds c = c .before .before .before .before .before .pre .within (c .before .loop .c) (c .loop-test .taken)
+
 loop-holds : tie.Need-loop-holds Inv-loop μ-loop
 loop-holds c = search needs
 
--- src/lib.rt:30:11
 add-loop : tie.Need-add-loop Inv-loop μ-loop
 add-loop c = search needs
 
--- src/lib.rt:31:17
 mul-a : tie.Need-mul-a Inv-loop μ-loop
 mul-a c = search needs
 
--- src/lib.rt:31:17
 shared-slice-read-a : tie.Need-shared-slice-read-a Inv-loop μ-loop
 shared-slice-read-a c = search needs
 
--- src/lib.rt:31:17
 cast-a : tie.Need-cast-a Inv-loop μ-loop
-cast-a c = search needs
+cast-a c = omega (arith, c .shared-slice-known4 .given (c .before .before .loop .c))
 
--- src/lib.rt:32:24
 add-b : tie.Need-add-b Inv-loop μ-loop
 add-b c = search needs
 
--- src/lib.rt:32:17
 mul-b : tie.Need-mul-b Inv-loop μ-loop
 mul-b c = search needs
 
--- src/lib.rt:32:17
 shared-slice-read-b : tie.Need-shared-slice-read-b Inv-loop μ-loop
 shared-slice-read-b c = search needs
 
--- src/lib.rt:32:17
 cast-b : tie.Need-cast-b Inv-loop μ-loop
-cast-b c = search needs
+cast-b c = omega (arith, c .shared-slice-known5 .given (c .before .before .before .loop .c + 1))
 
--- src/lib.rt:33:19
 mul-xor-at : tie.Need-mul-xor-at Inv-loop μ-loop
-mul-xor-at c = search needs
+mul-xor-at c = omega (arith, bounds (c .before .before))
 
--- src/lib.rt:33:19
 sub-xor-at : tie.Need-sub-xor-at Inv-loop μ-loop
-sub-xor-at c = search needs
+sub-xor-at c = omega (arith, bounds (c .before .before))
 
--- src/lib.rt:33:19
 part-xor-at-start : tie.Need-part-xor-at-start Inv-loop μ-loop
-part-xor-at-start c = search needs
+part-xor-at-start c = omega (arith, bounds (c .before .before))
 
--- src/lib.rt:33:19
 part-xor-at-end : tie.Need-part-xor-at-end Inv-loop μ-loop
-part-xor-at-end c = search needs
+part-xor-at-end c = omega (arith, bounds (c .before .before))
 
--- src/lib.rt:33:12
 xor-at-requires : tie.Need-xor-at-requires Inv-loop μ-loop
-xor-at-requires c κs = search needs
+xor-at-requires c κs =
+    let loop = c .before .before .before .before in
+    let start = loop .before .before .before .before in
+    let s = start .args .starts .now in
+    part-below _ _ (getD s (loop .loop .c) 0) (getD s (loop .loop .c + 1) 0) (start .pre .low)
 
--- src/lib.rt:34:13
 add-unsatisfied : tie.Need-add-unsatisfied Inv-loop μ-loop
 add-unsatisfied c = search needs
 
--- src/lib.rt:36:9
 add-c : tie.Need-add-c Inv-loop μ-loop
 add-c c = search needs
 
--- src/lib.rt:30:5
 loop-less : tie.Need-loop-less Inv-loop μ-loop
 loop-less c = search needs
 
--- src/lib.rt:30:5
 loop-again : tie.Need-loop-again Inv-loop μ-loop
-loop-again c = search needs
+loop-again c =
+    let turn = c .before .before .before .before .before in
+    ⊎-elim
+    (λ w. (search needs, omega arith, rw (w .1) (count-more _ _ _ _ _ _ _ _ (turn .loop-test .taken) (c .before .xor-at .ensures) (turn .before .loop .inv .2) (w .0 .taken))))
+    (λ w. (search needs, omega arith, rw (w .1) (count-same _ _ _ _ _ _ _ _ (turn .loop-test .taken) (c .before .xor-at .ensures) (turn .before .loop .inv .2) (w .0 .left))))
+    (c .if1 .came)
 
--- src/lib.rt:24:1
 returns : tie.Need-returns Inv-loop μ-loop
-returns c = search needs
+returns c = count-done _ _ _ _ _ _ _ (c .loop-test .left) (c .before .loop .inv .2)
 
 pub count-masked-spec : {M : Type 1} → statement M
 count-masked-spec =

@@ -4,6 +4,7 @@ use Prim.Native.Nat.{_+_, _-_, _≤_, _<_}
 use native.Mathlib.Omega.{arith}
 use lib.ListN.{length, drop, getD}
 use Rattle.tanner.specs.Checks.{xorFrom}
+use Rattle.tanner.specs.Flat.{Below}
 use Rattle.tanner.proofs.Steps.{xor-more, xor-done}
 use borrow.Author.Needs.{needs}
 use Rattle.tanner.proofs.xor_at.Statement.{statement}
@@ -17,39 +18,31 @@ Inv-loop positions bytes x₀ i₀ x i = (i ≤ length positions) × (xorFrom x 
 abbrev μ-loop : tie.MeasureT-loop
 μ-loop positions bytes x₀ i₀ x i = length positions - i
 
--- src/lib.rt:15:5
 loop-holds : tie.Need-loop-holds Inv-loop μ-loop
 loop-holds c = search needs
 
--- src/lib.rt:16:17
 mul-p : tie.Need-mul-p Inv-loop μ-loop
 mul-p c = search needs
 
--- src/lib.rt:16:17
 shared-slice-read-p : tie.Need-shared-slice-read-p Inv-loop μ-loop
 shared-slice-read-p c = search needs
 
--- src/lib.rt:16:17
 cast-p : tie.Need-cast-p Inv-loop μ-loop
 cast-p c = omega (arith, c .shared-slice-known .given (c .before .before .loop .i))
 
--- src/lib.rt:17:17
 shared-slice-read-x : tie.Need-shared-slice-read-x Inv-loop μ-loop
+unfolding Below
 shared-slice-read-x c = c .before .before .before .before .pre (c .before .before .before .loop .i) (omega arith)
 
--- src/lib.rt:18:9
 add-i : tie.Need-add-i Inv-loop μ-loop
 add-i c = search needs
 
--- src/lib.rt:15:5
 loop-less : tie.Need-loop-less Inv-loop μ-loop
 loop-less c = search needs
 
--- src/lib.rt:15:5
 loop-again : tie.Need-loop-again Inv-loop μ-loop
 loop-again c = (search needs, xor-more _ _ _ _ _ (c .before .before .loop-test .taken) (c .before .before .before .loop .inv .1))
 
--- src/lib.rt:9:1
 returns : tie.Need-returns Inv-loop μ-loop
 returns c = xor-done _ _ _ _ _ (c .loop-test .left) (c .before .loop .inv .1)
 
