@@ -2,7 +2,7 @@
 -- most significant bit first; only the low 14 bits are returned. `ft8_crc14` takes in a whole byte at every eighth bit".)
 use mathlib.Core.Bool.{cond}
 use mathlib.Core.List.{List}
-use Prim.Native.Nat.{ℕ, zero, suc, _*_, _/_, _%_, _^_}
+use Prim.Native.Nat.{ℕ, zero, suc, _-_, _*_, _/_, _%_, _^_}
 use lib.Bits.{bitXor}
 use lib.Dec.{eqb}
 use lib.ListN.{getD}
@@ -22,3 +22,7 @@ register m (suc i) = turn (fed m i (register m i))
 
 unfoldable pub crc14 : List ℕ → ℕ → ℕ
 crc14 m n = register m n % 2 ^ 14
+
+-- the unused low bits of the last byte taken in, as a number: 0 where n bits end with a byte
+unfoldable pub unused : List ℕ → ℕ → ℕ
+unused m n = cond (eqb (n % 8) 0) 0 (getD m (n / 8) 0 % 2 ^ (8 - n % 8))
