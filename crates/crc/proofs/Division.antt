@@ -27,6 +27,10 @@ areBits-take zero h = none
 areBits-take (suc n) none = none
 areBits-take (suc n) (more h hs) = more h (areBits-take n hs)
 
+pub zeros-are : (n : ℕ) → AreBits (replicate n 0)
+zeros-are zero = none
+zeros-are (suc n) = more {b = 0} (omega arith) (zeros-are n)
+
 -- the remainder's parts: bit 13, and those below it
 low-parts : (r : ℕ) → r < 2 ^ 14 → lowTurn r ≡ bitXor (r % 2 ^ 13 * 2) (r / 2 ^ 13 * 0x2757)
 unfolding lowTurn turn

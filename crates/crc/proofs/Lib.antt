@@ -5,3 +5,4 @@ pub mod Digits
 pub mod Fed
 pub mod Agreement
 pub mod Places
+pub mod Cases

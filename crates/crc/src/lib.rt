@@ -11,6 +11,7 @@ ghost use Rattle.crc.specs.Bytes.{laid, stored};
 ghost use Rattle.crc.specs.Calls.{answerOf, addedOf, bytesFor, crc14Refusals, addRefusals, extractRefusals};
 
 const POLY: u16 = 0x2757;
+
 const TOP_BIT: u16 = 0x2000;
 
 // The answer of a call that computes or reads a checksum.

@@ -7,10 +7,6 @@ use Rattle.crc.specs.Register.{turn, fed, register, crc14}
 use borrow.Author.Needs.{needs}
 use Rattle.crc.proofs.checksum_of.Statement.{statement}
 use Rattle.crc.proofs.checksum_of.Tie as tie
-use Rattle.crc.proofs.checksum_of.Reads as reads
-use Rattle.crc.proofs.checksum_of.Lts as lts
-use Rattle.crc.proofs.feed.Reads as feed-reads
-use Rattle.crc.proofs.step.Reads as step-reads
 
 abbrev Inv-loop : tie.InvT-loop
 Inv-loop message num-bits r₀ i₀ r i = (i ≤ num-bits) × (r ≡ register message i)
@@ -18,38 +14,32 @@ Inv-loop message num-bits r₀ i₀ r i = (i ≤ num-bits) × (r ≡ register me
 abbrev μ-loop : tie.MeasureT-loop
 μ-loop message num-bits r₀ i₀ r i = num-bits - i
 
--- src/lib.rt:58:5
 loop-holds : tie.Need-loop-holds Inv-loop μ-loop
 unfolding register
 loop-holds c = search needs
 
--- src/lib.rt:59:18
 feed-requires : tie.Need-feed-requires Inv-loop μ-loop
 feed-requires c κs = search needs
 
--- src/lib.rt:59:9
 step-requires : tie.Need-step-requires Inv-loop μ-loop
 step-requires c κs = search needs
 
--- src/lib.rt:60:9
 add-i : tie.Need-add-i Inv-loop μ-loop
 add-i c = search needs
 
--- src/lib.rt:58:5
 loop-less : tie.Need-loop-less Inv-loop μ-loop
 loop-less c = search needs
 
--- src/lib.rt:58:5
 loop-again : tie.Need-loop-again Inv-loop μ-loop
 unfolding register
 loop-again c =
-    let i = c .before .before .before .loop .i in
-    (search needs,
-    c .step .ensures
-    ∙ ap turn (c .before .feed .ensures ∙ ap (fed _ i) (c .before .before .before .loop .inv .1))
-    ∙ ap (register _) (sym (add-one i)))
+    let i = c .before .before .before .loop .i in (
+      search needs,
+      c .step .ensures
+          ∙ ap turn (c .before .feed .ensures ∙ ap (fed _ i) (c .before .before .before .loop .inv .1))
+          ∙ ap (register _) (sym (add-one i)),
+    )
 
--- src/lib.rt:52:1
 returns : tie.Need-returns Inv-loop μ-loop
 unfolding crc14
 returns c =

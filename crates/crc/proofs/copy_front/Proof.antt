@@ -11,8 +11,6 @@ use denote.Ref.{now}
 use borrow.Author.Needs.{needs}
 use Rattle.crc.proofs.copy_front.Statement.{statement}
 use Rattle.crc.proofs.copy_front.Tie as tie
-use Rattle.crc.proofs.copy_front.Reads as reads
-use Rattle.crc.proofs.copy_front.Lts as lts
 
 -- one byte more: the kit's law of a copy that starts at 0
 front-more : (d s : List ℕ) (j : ℕ) → j < length d → j < length s → set (take j s ++ drop j d) j (getD s j 0) ≡ take (suc j) s ++ drop (suc j) d
@@ -24,41 +22,35 @@ Inv-loop src dst₀ n i₀ dst i = (i ≤ n) × (length dst ≡ length dst₀) �
 abbrev μ-loop : tie.MeasureT-loop
 μ-loop src dst₀ n i₀ dst i = n - i
 
--- src/lib.rt:87:5
 loop-holds : tie.Need-loop-holds Inv-loop μ-loop
 loop-holds c = search needs
 
--- src/lib.rt:88:18
 shared-slice-read-dst : tie.Need-shared-slice-read-dst Inv-loop μ-loop
 shared-slice-read-dst c = search needs
 
--- src/lib.rt:88:9
 slice-write-dst : tie.Need-slice-write-dst Inv-loop μ-loop
 slice-write-dst c = search needs
 
--- src/lib.rt:89:9
 add-i : tie.Need-add-i Inv-loop μ-loop
 add-i c = search needs
 
--- src/lib.rt:87:5
 loop-less : tie.Need-loop-less Inv-loop μ-loop
 loop-less c = search needs
 
--- src/lib.rt:87:5
 loop-again : tie.Need-loop-again Inv-loop μ-loop
 loop-again c =
     let i = c .before .before .loop .i in
-    let start = c .before .before .before in
-    (search needs, search needs,
-    ap (λ (d : List ℕ). set d i (getD (now (start .args .src)) i 0)) (c .before .before .loop .inv .2)
-    ∙ front-more (now (start .args .dst)) (now (start .args .src)) i (omega arith) (omega arith)
-    ∙ ap (λ (k : ℕ). take k (now (start .args .src)) ++ drop k (now (start .args .dst))) (sym (add-one i)))
+    let start = c .before .before .before in (
+      search needs,
+      search needs,
+      ap (λ (d : List ℕ). set d i (getD (now (start .args .src)) i 0)) (c .before .before .loop .inv .2)
+          ∙ front-more (now (start .args .dst)) (now (start .args .src)) i (omega arith) (omega arith)
+          ∙ ap (λ (k : ℕ). take k (now (start .args .src)) ++ drop k (now (start .args .dst))) (sym (add-one i)),
+    )
 
--- src/lib.rt:82:1
 same-length : tie.Need-same-length Inv-loop μ-loop
 same-length c = search needs
 
--- src/lib.rt:82:1
 returns : tie.Need-returns Inv-loop μ-loop
 returns c =
     let all : c .before .loop .i ≡ c .before .before .args .n = omega arith in
