@@ -56,9 +56,9 @@ fn replay_one() -> bool {
     }
     print_all_counts(&message);
     io::write_all(STDOUT_FILENO, b" ");
-    print_block(&message[..10]);
+    print_block(&message[0..10]);
     io::write_all(STDOUT_FILENO, b" ");
-    print_checksum(crc::ft8_extract_crc(&message[..12]));
+    print_checksum(crc::ft8_extract_crc(&message[0..12]));
     io::write_all(STDOUT_FILENO, b"\n");
     true
 }

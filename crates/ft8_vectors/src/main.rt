@@ -4,6 +4,9 @@
 use crc::Added;
 use crc::Checksum;
 use libc::STDOUT_FILENO;
+ghost use mathlib.Core.Path.{_≡_};
+ghost use Prim.Native.Nat.{_≤_, _<_};
+ghost use lib.ListN.{length};
 
 fn print_bit(set: bool) {
     if set {
@@ -22,7 +25,7 @@ fn push(byte: u8, digit: u8) -> u8 {
     }
 }
 
-// The eight digits of the line from `start` on; past the 77th, zeros.
+// The byte of the eight digits of the line from `start` on; past the 77th, zeros.
 fn packed_byte(line: &[u8], start: usize) -> u8
     requires { ⌜ 77 ≤ length (now line) ⌝ }
     requires { ⌜ start < 128 ⌝ }
@@ -38,6 +41,7 @@ fn packed_byte(line: &[u8], start: usize) -> u8
     byte
 }
 
+// The payload's ten bytes of the line's first 77 digits.
 fn pack(line: &[u8], payload: &mut [u8])
     requires { ⌜ 77 ≤ length (now line) ⌝ }
     requires { ⌜ length (now payload) ≡ 10 ⌝ }
@@ -50,7 +54,7 @@ fn pack(line: &[u8], payload: &mut [u8])
     }
 }
 
-// Bit `from` of a byte on, most significant first: eight at most.
+// The low bits of a byte, as many as `count` says (eight at most), most significant first.
 fn print_low_bits(byte: u8, count: u8) {
     let mut left = count;
     while left > 0 {
