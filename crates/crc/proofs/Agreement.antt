@@ -11,7 +11,7 @@ use lib.Pow.{pow-pos, pow-add, mod-pow-add, shl-lt}
 use lib.Seq.{take-suc}
 use Rattle.crc.specs.Bits.{bits}
 use Rattle.crc.specs.Qex.{bringDown, divide, qex}
-use Rattle.crc.specs.Register.{turn, fed, register, crc14, unused}
+use Rattle.crc.specs.Register.{fed, register, crc14, unused}
 use Rattle.crc.proofs.Xor.{xor-assoc}
 use Rattle.crc.proofs.Turn.{lowTurn, lowTurn-low, lowTurn-xor, lowTurn-double}
 use Rattle.crc.proofs.Division.{areBits-take, qex-more}

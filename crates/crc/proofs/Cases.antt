@@ -1,7 +1,6 @@
 -- The (P) cases of the checksum hold, and the smallest input on which the register and QEX differ: by computation.
 use mathlib.Core.Path.{_≡_, refl}
-use mathlib.Core.List.{List, [], _∷_, _++_}
-use Prim.Native.Nat.{ℕ}
+use mathlib.Core.List.{[], _∷_}
 use lib.ListN.{take}
 use Rattle.crc.specs.Bits.{bitsOf, bits, numberAfter}
 use Rattle.crc.specs.Block.{carried}

@@ -1,12 +1,12 @@
 -- The bits of numbers and of bytes: how many there are, which stands where, and that packing gives the bytes back; by induction on the lists.
 use mathlib.Core.Path.{_≡_, refl, sym, ap, ap₂, _∙_}
 use mathlib.Core.List.{List, [], _∷_, _++_, append-assoc}
-use Prim.Native.Nat.{ℕ, zero, suc, _+_, _-_, _*_, _/_, _%_, _^_, _<_, _≤_}
+use Prim.Native.Nat.{ℕ, zero, suc, _+_, _-_, _*_, _/_, _%_, _^_, _<_}
 use native.Mathlib.Nat.{add-zero, zero-add, suc-add, add-comm, add-assoc, add-mul, mul-one, mul-assoc, mul-comm, mod-lt, mod-one, pow-suc}
 use native.Mathlib.Numerals.{one-add}
 use native.Mathlib.Decide.{decLt}
 use native.Mathlib.Omega.{arith}
-use lib.ListN.{length, getD, take, drop, length-append, List·getD-append}
+use lib.ListN.{length, getD, take, length-append, List·getD-append}
 use lib.Pow.{pow-pos, mod-pow-add, shr-shr}
 use lib.Seq.{getD-append-add, take-at, drop-at}
 use Rattle.crc.specs.Bits.{bitsOf, bits, numberAfter, number, packed}

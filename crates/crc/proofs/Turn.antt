@@ -1,6 +1,6 @@
 -- A turn of the register, and its 14 low bits alone: both are linear over XOR, and the low bits depend on the low bits alone.
 use mathlib.Core.Path.{_≡_, refl, sym, ap, ap₂, _∙_}
-use Prim.Native.Nat.{ℕ, zero, suc, _+_, _*_, _/_, _%_, _^_, _<_}
+use Prim.Native.Nat.{ℕ, zero, suc, _*_, _/_, _%_, _^_, _<_}
 use native.Mathlib.Nat.{mod-lt, mod-mod}
 use native.Mathlib.Omega.{arith}
 use lib.Bits.{bitAnd, and-high, bitXor, xor-shr, xor-mod, xor-zero-r}

@@ -1,5 +1,5 @@
 -- `crc_replay::print_all_counts` prints the checksums of every bit count. The measure is the counts that are left.
-use Prim.Native.Nat.{ℕ, _-_, _≤_}
+use Prim.Native.Nat.{_-_, _≤_}
 use borrow.Author.Needs.{needs}
 use Rattle.crc_replay.proofs.print_all_counts.Statement.{statement}
 use Rattle.crc_replay.proofs.print_all_counts.Tie as tie

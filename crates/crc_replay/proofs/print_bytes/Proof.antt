@@ -1,5 +1,5 @@
 -- `crc_replay::print_bytes` is safe and ends: the index stays within the bytes.
-use Prim.Native.Nat.{ℕ, _-_, _≤_}
+use Prim.Native.Nat.{_-_, _≤_}
 use lib.ListN.{length}
 use borrow.Author.Needs.{needs}
 use Rattle.crc_replay.proofs.print_bytes.Statement.{statement}

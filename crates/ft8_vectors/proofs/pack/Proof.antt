@@ -1,6 +1,6 @@
 -- `ft8_vectors::pack` is safe and keeps the length of what it writes.
 use mathlib.Core.Path.{_≡_}
-use Prim.Native.Nat.{ℕ, _-_, _≤_}
+use Prim.Native.Nat.{_-_, _≤_}
 use lib.ListN.{length}
 use borrow.Author.Needs.{needs}
 use Rattle.ft8_vectors.proofs.pack.Statement.{statement}

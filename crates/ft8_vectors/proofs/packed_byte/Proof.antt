@@ -1,5 +1,5 @@
 -- `ft8_vectors::packed_byte` is safe and ends: each digit that it reads lies before the 77th.
-use Prim.Native.Nat.{ℕ, _-_, _≤_}
+use Prim.Native.Nat.{_-_, _≤_}
 use borrow.Author.Needs.{needs}
 use Rattle.ft8_vectors.proofs.packed_byte.Statement.{statement}
 use Rattle.ft8_vectors.proofs.packed_byte.Tie as tie

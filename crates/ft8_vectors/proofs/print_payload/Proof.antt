@@ -1,5 +1,5 @@
 -- `ft8_vectors::print_payload` is safe and ends: the index stays within the block.
-use Prim.Native.Nat.{ℕ, _-_, _≤_}
+use Prim.Native.Nat.{_-_, _≤_}
 use borrow.Author.Needs.{needs}
 use Rattle.ft8_vectors.proofs.print_payload.Statement.{statement}
 use Rattle.ft8_vectors.proofs.print_payload.Tie as tie
