@@ -1,0 +1,72 @@
+-- `crc::copy_front` meets its contract. The invariant: dst has the first i bytes of src in front, and is otherwise as it was.
+use mathlib.Core.Path.{_≡_, sym, ap, _∙_}
+use mathlib.Core.List.{List, _++_}
+use Prim.Native.Nat.{ℕ, suc, _-_, _≤_, _<_}
+use native.Mathlib.Nat.{zero-add}
+use native.Mathlib.Numerals.{add-one}
+use native.Mathlib.Omega.{arith}
+use lib.ListN.{length, getD, set, take, drop}
+use lib.Seq.{paste-suc}
+use denote.Ref.{now}
+use borrow.Author.Needs.{needs}
+use Rattle.crc.proofs.copy_front.Statement.{statement}
+use Rattle.crc.proofs.copy_front.Tie as tie
+
+-- one byte more: the kit's law of a copy that starts at 0
+front-more : (d s : List ℕ) (j : ℕ) → j < length d → j < length s → set (take j s ++ drop j d) j (getD s j 0) ≡ take (suc j) s ++ drop (suc j) d
+front-more d s j h k = simp zero-add at (paste-suc d 0 s j 0 (rw (zero-add j) h) k)
+
+abbrev Inv-loop : tie.InvT-loop
+Inv-loop src dst₀ n i₀ dst i = (i ≤ n) × (length dst ≡ length dst₀) × (dst ≡ take i src ++ drop i dst₀)
+
+abbrev μ-loop : tie.MeasureT-loop
+μ-loop src dst₀ n i₀ dst i = n - i
+
+loop-holds : tie.Need-loop-holds Inv-loop μ-loop
+loop-holds c = search needs
+
+shared-slice-read-dst : tie.Need-shared-slice-read-dst Inv-loop μ-loop
+shared-slice-read-dst c = search needs
+
+slice-write-dst : tie.Need-slice-write-dst Inv-loop μ-loop
+slice-write-dst c = search needs
+
+add-i : tie.Need-add-i Inv-loop μ-loop
+add-i c = search needs
+
+loop-less : tie.Need-loop-less Inv-loop μ-loop
+loop-less c = search needs
+
+loop-again : tie.Need-loop-again Inv-loop μ-loop
+loop-again c =
+    let i = c .before .before .loop .i in
+    let start = c .before .before .before in (
+      search needs,
+      search needs,
+      ap (λ (d : List ℕ). set d i (getD (now (start .args .src)) i 0)) (c .before .before .loop .inv .2)
+          ∙ front-more (now (start .args .dst)) (now (start .args .src)) i (omega arith) (omega arith)
+          ∙ ap (λ (k : ℕ). take k (now (start .args .src)) ++ drop k (now (start .args .dst))) (sym (add-one i)),
+    )
+
+same-length : tie.Need-same-length Inv-loop μ-loop
+same-length c = search needs
+
+returns : tie.Need-returns Inv-loop μ-loop
+returns c =
+    let all : c .before .loop .i ≡ c .before .before .args .n = omega arith in
+    c .before .loop .inv .2 ∙ ap (λ (k : ℕ). take k (now (c .before .before .args .src)) ++ drop k (now (c .before .before .args .dst))) all
+
+pub copy-front-spec : {M : Type 1} → statement M
+copy-front-spec =
+    tie.close
+    (tie.spec
+    Inv-loop
+    μ-loop
+    loop-holds
+    shared-slice-read-dst
+    slice-write-dst
+    add-i
+    loop-less
+    loop-again
+    same-length
+    returns)

@@ -1,0 +1,36 @@
+-- What the calls of this crate answer: the cases of their enums, and the conditions on which each call is turned down, in order.
+use mathlib.Core.Bool.{not}
+use mathlib.Core.List.{List, [], _∷_}
+use Prim.Native.Nat.{ℕ, _+_, _/_}
+use lib.Dec.{eqb, ltb}
+use lib.ListN.{length}
+use Rattle.refusal.specs.Outcome.{Outcome, accepted, refused, Condition, _when_}
+use Rattle.refusal.specs.Numbers.{numberOf}
+use Rattle.crc.specs.declared.Checksum.{Checksum}
+use Rattle.crc.specs.declared.Checksum.the-variants as checksum
+use Rattle.crc.specs.declared.Added.{Added}
+use Rattle.crc.specs.declared.Added.the-variants as added
+
+abbrev pub answerOf : Checksum → Outcome ℕ
+answerOf (checksum.Value v) = accepted v
+answerOf (checksum.Refused r) = refused (numberOf r)
+
+-- a written block has no value beside it
+abbrev pub addedOf : Added → Outcome Unit
+addedOf added.Done = accepted tt
+addedOf (added.Refused r) = refused (numberOf r)
+
+-- the bytes that n bits need
+abbrev pub bytesFor : ℕ → ℕ
+bytesFor n = (n + 7) / 8
+
+-- "checksum bits need more bytes than given"
+abbrev pub crc14Refusals : List ℕ → ℕ → List Condition
+crc14Refusals m n = (4 when ltb (length m) (bytesFor n)) ∷ []
+
+-- "input not its fixed length (.. payload 10, block 12)", "an output not exactly its length"
+abbrev pub addRefusals : List ℕ → List ℕ → List Condition
+addRefusals payload a91 = (4 when not (eqb (length payload) 10)) ∷ (8 when not (eqb (length a91) 12)) ∷ []
+
+abbrev pub extractRefusals : List ℕ → List Condition
+extractRefusals a91 = (4 when not (eqb (length a91) 12)) ∷ []

@@ -1,0 +1,7 @@
+pub mod Bits
+pub mod Qex
+pub mod Register
+pub mod Block
+pub mod Calls
+pub mod Cases
+pub mod Bytes
