@@ -1,0 +1,4 @@
+pub mod Rounds
+pub mod Graph
+pub mod Chosen
+pub mod Passes

@@ -1,0 +1,1 @@
+// The round loop that both decoders run.
