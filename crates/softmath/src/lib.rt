@@ -6,7 +6,7 @@ ghost use lib.ListN.{length};
 ghost use lib.Ieee.{neg};
 ghost use Rattle.softmath.specs.Single.{_⊘_, _⊗_, two32, foldFrom, product, sumFrom};
 ghost use Rattle.softmath.specs.Functions.{tanh, atanh, clampUnit, magnitudeOf, decide};
-ghost use Rattle.softmath.specs.CheckNode.{atEach, seen, minimaOf, minAnswer, minSum, before, middle, after};
+ghost use Rattle.softmath.specs.CheckNode.{atEach, turned, seen, minimaOf, minAnswer, minSum, before, middle, after};
 ghost use Rattle.softmath.specs.VariableNode.{decisionSum, answersAt, EdgesWithin, lessOwn, othersSummed, bitTurned};
 
 // How a check answers: the three rules of the staircase codes, and (174,91)'s own.
@@ -105,7 +105,8 @@ pub fn before_checks(rule: DecodeRule, part: &mut [f32])
         DecodeRule::Ft8 => {
             tanh_over(-2.0, part);
         }
-        DecodeRule::MinSum | DecodeRule::ScaledMinSum(_) => {}
+        DecodeRule::MinSum => {}
+        DecodeRule::ScaledMinSum(_) => {}
     }
 }
 
@@ -136,37 +137,43 @@ fn products(part: &mut [f32])
     }
 }
 
-// One message more: a NaN is neither negative nor below anything.
+// The sign with v's: a NaN and -0.0 are not negative.
+fn turn_sign(v: f32, sign: f32) -> f32
+    ensures { λ r. ⌜ r ≡ turned v sign ⌝ }
+{
+    if v < 0.0 { -sign } else { sign }
+}
+
+// One message more: a NaN is below nothing.
 fn note(m: Minima, i: usize, v: f32) -> Minima
     ensures { λ r. ⌜ r ≡ seen m i v ⌝ }
 {
     let a = magnitude(v);
     let least = m.least;
     let second = m.second;
-    let sign = if v < 0.0 { -m.sign } else { m.sign };
+    let place = m.place;
+    let sign = turn_sign(v, m.sign);
     if a < least {
-        Minima {
+        return Minima {
             least: a,
             second: least,
             place: i,
             sign: sign,
-        }
-    } else {
-        if a < second {
-            Minima {
-                least: least,
-                second: a,
-                place: m.place,
-                sign: sign,
-            }
-        } else {
-            Minima {
-                least: least,
-                second: second,
-                place: m.place,
-                sign: sign,
-            }
-        }
+        };
+    }
+    if a < second {
+        return Minima {
+            least: least,
+            second: a,
+            place: place,
+            sign: sign,
+        };
+    }
+    Minima {
+        least: least,
+        second: second,
+        place: place,
+        sign: sign,
     }
 }
 
@@ -192,9 +199,12 @@ fn least_two(part: &[f32]) -> Minima
 fn min_answer(scale: f32, m: Minima, i: usize, v: f32) -> f32
     ensures { λ r. ⌜ r ≡ minAnswer scale m i v ⌝ }
 {
-    let sign = if v < 0.0 { -m.sign } else { m.sign };
-    let least = if i == m.place { m.second } else { m.least };
-    scale * sign * least
+    let signed = scale * turn_sign(v, m.sign);
+    if i == m.place {
+        signed * m.second
+    } else {
+        signed * m.least
+    }
 }
 
 fn min_sum(scale: f32, part: &mut [f32])
@@ -213,7 +223,10 @@ pub fn at_check(rule: DecodeRule, part: &mut [f32])
     ensures { λ _. ⌜ now (part .exit) ≡ middle rule (now (part .entry)) ⌝ }
 {
     match rule {
-        DecodeRule::SumProduct | DecodeRule::Ft8 => {
+        DecodeRule::SumProduct => {
+            products(part);
+        }
+        DecodeRule::Ft8 => {
             products(part);
         }
         DecodeRule::MinSum => {
@@ -258,7 +271,8 @@ pub fn after_checks(rule: DecodeRule, part: &mut [f32])
         DecodeRule::Ft8 => {
             negated_answers(part);
         }
-        DecodeRule::MinSum | DecodeRule::ScaledMinSum(_) => {}
+        DecodeRule::MinSum => {}
+        DecodeRule::ScaledMinSum(_) => {}
     }
 }
 
