@@ -7,6 +7,7 @@ use mathlib.Core.List.{List, [], _∷_, _++_, map, append-nil}
 use Prim.Native.Nat.{ℕ, zero, suc, _+_, _-_, _≤_, _<_}
 use native.Mathlib.Nat.{add-zero, zero-add, add-suc, suc-add}
 use native.Mathlib.Decide.{decLt}
+use native.Mathlib.Numerals.{add-one}
 use native.Mathlib.Omega.{arith}
 use borrow.Author.Tests.{eqb-true}
 use lib.Dec.{eqb}
@@ -19,7 +20,17 @@ use Rattle.softmath.specs.declared.SumKind.{SumKind}
 use Rattle.tanner.specs.Flat.{joined, places, Below}
 use Rattle.tanner.proofs.Places.{places-stand, rank, rank-inside, rank-place}
 use Rattle.belief.specs.Rounds.{Decode, channel, heard, decidedFrom, decided, sentFrom, sent}
-use Rattle.belief.specs.Passes.{Pass, bitDone, turns}
+use Rattle.belief.specs.Passes.{Pass, passOf, partAt, bitDone, bitTurn, turns}
+
+-- ---- one turn of the loop
+
+pub turn-more : (kind : SumKind) (llr : List Float) (starts edges : List ℕ) (n : ℕ) (hard : List ℕ) (work next : List Float) (z : Pass) (bit : ℕ)
+    → passOf hard work ≡ turns (bitTurn kind llr starts edges) n z
+    → bit ≡ decide (decisionSum (getD llr n nan) (answersAt work (take (getD starts (n + 1) 0 - getD starts n 0) (drop (getD starts n 0) edges))))
+    → next ≡ bitTurned kind (getD llr n nan) (take (getD starts (n + 1) 0 - getD starts n 0) (drop (getD starts n 0) edges)) work
+    → passOf (set hard n bit) next ≡ turns (bitTurn kind llr starts edges) (n + 1) z
+unfolding turns bitTurn bitDone partAt
+turn-more kind llr starts edges n hard work next z bit i b w = rw (add-one, ← i, b, w)
 
 -- ---- values put at distinct places
 
@@ -79,14 +90,6 @@ map-alike f g (x ∷ xs) h =
     let b = map-alike f g xs (λ k l. h (suc k) (omega arith)) in
     rw (a, b)
 
--- past two fronts of one length the same list follows
-past-front : (xs ys rest : List Float) (i : ℕ) → length xs ≡ length ys → length xs ≤ i → getD (xs ++ rest) i nan ≡ getD (ys ++ rest) i nan
-past-front [] [] rest i e h = refl
-past-front [] (y ∷ ys) rest i e h = absurd (omega arith)
-past-front (x ∷ xs) [] rest i e h = absurd (omega arith)
-past-front (x ∷ xs) (y ∷ ys) rest zero e h = absurd (omega arith)
-past-front (x ∷ xs) (y ∷ ys) rest (suc i) e h = past-front xs ys rest i (omega arith) (omega arith)
-
 -- ---- the definition, position by position and edge by edge
 
 module _ (d : Decode) (ans : List Float) where
@@ -118,7 +121,7 @@ module _ (d : Decode) (ans : List Float) where
 
 module _ (turned : (kind : SumKind) (l : Float) (es : List ℕ) (w : List Float) → Distinct es → EdgesWithin es (length w) → bitTurned kind l es w ≡ putAt es (newMessages kind l (answersAt w es)) w)
     (new-length : (kind : SumKind) (l : Float) (a : List Float) → length (newMessages kind l a) ≡ length a)
-    (d : Decode) (ans rest : List Float) (word₀ : List ℕ) (sized : length ans ≡ length (joined (d .checks))) where
+    (d : Decode) (ans : List Float) (word₀ : List ℕ) (sized : length ans ≡ length (joined (d .checks))) where
   abbrev flat : List ℕ
   flat = joined (d .checks)
 
@@ -128,11 +131,10 @@ module _ (turned : (kind : SumKind) (l : Float) (es : List ℕ) (w : List Float)
 
   -- after the bits below b
   record After (b : ℕ) (s : Pass) : Type 0 where
-    size : length (s .work) ≡ length (ans ++ rest)
+    size : length (s .work) ≡ length ans
     wide : length (s .word) ≡ length word₀
     new : (e : ℕ) → e < length flat → getD flat e 0 < b → getD (s .work) e nan ≡ fresh e
     old : (e : ℕ) → e < length flat → b ≤ getD flat e 0 → getD (s .work) e nan ≡ getD ans e nan
-    past : (i : ℕ) → length flat ≤ i → getD (s .work) i nan ≡ getD (ans ++ rest) i nan
     done : (i : ℕ) → i < b → getD (s .word) i 0 ≡ decide (decisionSum (channel d i) (heard d ans i))
 
   module _ (b : ℕ) (s : Pass) (a : After b s) (h : b < length word₀) where
@@ -140,7 +142,7 @@ module _ (turned : (kind : SumKind) (l : Float) (es : List ℕ) (w : List Float)
     edges = places b 0 flat
 
     long : length flat ≤ length (s .work)
-    long = omega (arith, a .size, length-append ans rest)
+    long = omega (arith, a .size)
 
     hears : answersAt (s .work) edges ≡ heard d ans b
     unfolding answersAt heard
@@ -193,32 +195,30 @@ module _ (turned : (kind : SumKind) (l : Float) (es : List ℕ) (w : List Float)
       wide = length-set (s .word) b _ ∙ a .wide;
       new = λ e l m. new-by e l m (decLt (getD flat e 0) b);
       old = λ e l m. elsewhere e (no-edge e (λ q. omega arith)) ∙ a .old e l (omega arith);
-      past = λ i l. elsewhere i (λ k m q. omega (arith, edge-low flat b k m)) ∙ a .past i l;
       done = λ i l. done-by i l (decLt i b);
     }
 
-  after-none : After 0 (record { word = word₀; work = ans ++ rest })
+  after-none : After 0 (passOf word₀ ans)
   after-none = record {
     size = refl;
     wide = refl;
     new = λ e l m. absurd (omega arith);
-    old = λ e l m. List·getD-append ans rest nan e (omega arith);
-    past = λ i l. refl;
+    old = λ e l m. refl;
     done = λ i l. absurd (omega arith);
   }
 
   -- the bits' turns, given what a turn does to a bit
   module _ (step : ℕ → Pass → Pass) (n : ℕ) (steps : (b : ℕ) (s : Pass) → b < n → step b s ≡ bitDone (d .kind) (channel d b) (places b 0 flat) b s)
       (count : length word₀ ≡ n) (frame : length (d .llr) ≡ n) (low : Below n flat) where
-    after-turns : (b : ℕ) → b ≤ n → After b (turns step b (record { word = word₀; work = ans ++ rest }))
+    after-turns : (b : ℕ) → b ≤ n → After b (turns step b (passOf word₀ ans))
     unfolding turns
     after-turns zero l = after-none
     after-turns (suc b) l =
-        let s = turns step b (record { word = word₀; work = ans ++ rest }) in
+        let s = turns step b (passOf word₀ ans) in
         rw (steps b s (omega arith)) (after-more b s (after-turns b (omega arith)) (omega arith))
 
     abbrev ended : Pass
-    ended = turns step n (record { word = word₀; work = ans ++ rest })
+    ended = turns step n (passOf word₀ ans)
 
     pub turns-word : ended .word ≡ decided d ans
     turns-word =
@@ -226,17 +226,9 @@ module _ (turned : (kind : SumKind) (l : Float) (es : List ℕ) (w : List Float)
         ext-getD 0 (ended .word) (decided d ans) (a .wide ∙ count ∙ sym frame ∙ sym (decided-length d ans 0 (d .llr)))
         (λ i l. a .done i (omega (arith, a .wide)) ∙ sym (rw zero-add at (decided-at d ans 0 (d .llr) i (omega (arith, a .wide)))))
 
-    turns-at : (i : ℕ) → Dec (i < length flat) → getD (ended .work) i nan ≡ getD (sent d ans ++ rest) i nan
+    pub turns-work : ended .work ≡ sent d ans
     unfolding Below
-    turns-at i (yes l) =
-        after-turns n (omega arith) .new i l (low i l)
-        ∙ sym (List·getD-append (sent d ans) rest nan i (omega (arith, sent-length d ans [] flat)) ∙ sent-at d ans [] flat i l)
-    turns-at i (no l) =
-        after-turns n (omega arith) .past i (omega arith)
-        ∙ past-front ans (sent d ans) rest i (omega (arith, sent-length d ans [] flat)) (omega arith)
-
-    pub turns-work : ended .work ≡ sent d ans ++ rest
     turns-work =
-        ext-getD nan (ended .work) (sent d ans ++ rest)
-        (omega (arith, after-turns n (omega arith) .size, length-append ans rest, length-append (sent d ans) rest, sent-length d ans [] flat))
-        (λ i l. turns-at i (decLt i (length flat)))
+        let a = after-turns n (omega arith) in
+        ext-getD nan (ended .work) (sent d ans) (a .size ∙ sized ∙ sym (sent-length d ans [] flat))
+        (λ i l. a .new i (omega (arith, a .size)) (low i (omega (arith, a .size))) ∙ sym (sent-at d ans [] flat i (omega (arith, a .size))))

@@ -1,6 +1,6 @@
 -- The pass over the checks, part by part in place, is the check step of the definition. By induction over the checks. Assumes nothing.
 use mathlib.Core.Path.{_≡_, refl, sym, ap, _∙_}
-use mathlib.Core.List.{List, [], _∷_, _++_, map, append-assoc}
+use mathlib.Core.List.{List, [], _∷_, _++_, map, append-assoc, append-nil}
 use Prim.Native.Nat.{ℕ, zero, suc, _+_, _-_, _≤_, _<_}
 use native.Mathlib.Numerals.{add-one}
 use native.Mathlib.Omega.{arith}
@@ -15,9 +15,10 @@ use Rattle.belief.specs.Passes.{onPart, onParts, onFrom}
 -- ---- one turn of the loop
 
 module _ (f : List Float → List Float) (s : List ℕ) where
-  pub parts-more : (c : ℕ) (w v z : List Float) → c + 1 < length s → v ≡ onPart f (getD s c 0) (getD s (c + 1) 0) w → onFrom f s c w ≡ z → onFrom f s (c + 1) v ≡ z
-  unfolding onFrom onParts
-  parts-more c w v z h e i = rw (e, add-one (c + 1)) (rw (drop-cons s (c + 1) 0 h) at i)
+  pub parts-more : (c : ℕ) (w m z : List Float) → c + 1 < length s → m ≡ f (take (getD s (c + 1) 0 - getD s c 0) (drop (getD s c 0) w)) → onFrom f s c w ≡ z
+      → onFrom f s (c + 1) (take (getD s c 0) w ++ (m ++ drop (getD s (c + 1) 0 - getD s c 0) (drop (getD s c 0) w))) ≡ z
+  unfolding onFrom onParts onPart
+  parts-more c w m z h e i = rw (e, add-one (c + 1)) (rw (drop-cons s (c + 1) 0 h) at i)
 
   pub parts-done : (c : ℕ) (w z : List Float) → length s ≤ c + 1 → onFrom f s c w ≡ z → w ≡ z
   unfolding onFrom onParts
@@ -59,7 +60,6 @@ module _ (f : List Float → List Float) (keeps : (m : List Float) → length (f
       ∙ append-assoc p (f m) (joined (map f (byCheck cs q)) ++ rest)
       ∙ ap (λ (l : List Float). p ++ l) (sym (append-assoc (f m) (joined (map f (byCheck cs q))) rest))
 
-  pub from-joined : (cs : Checks) (ms rest : List Float) → length ms ≡ length (joined cs)
-      → onFrom f (offsets cs) 0 (ms ++ rest) ≡ joined (map f (byCheck cs ms)) ++ rest
+  pub from-joined : (cs : Checks) (ms : List Float) → length ms ≡ length (joined cs) → onFrom f (offsets cs) 0 ms ≡ joined (map f (byCheck cs ms))
   unfolding onFrom
-  from-joined cs ms rest l = parts-joined cs ms rest [] 0 refl l
+  from-joined cs ms l = simp append-nil at (parts-joined cs ms [] [] 0 refl l)

@@ -1,3 +1,4 @@
 pub mod Words
+pub mod Fill
 pub mod Checks
 pub mod Bits

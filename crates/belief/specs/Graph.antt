@@ -2,13 +2,23 @@
 use mathlib.Core.Path.{_≡_}
 use mathlib.Core.List.{List}
 use Prim.Native.Nat.{ℕ, _≤_}
+use lib.Ieee.{Float}
 use lib.ListN.{length}
-use Rattle.tanner.specs.Flat.{FlatChecks, offsets, joined, rowsOf, bitEdges}
+use Rattle.softmath.specs.declared.DecodeRule.{DecodeRule}
+use Rattle.softmath.specs.declared.SumKind.{SumKind}
+use Rattle.tanner.specs.Flat.{Below, offsets, joined, rowsOf, bitEdges}
+use Rattle.belief.specs.Rounds.{Decode}
 
--- The arrays have the checks' positions with starts, at most 3,070 edges, and the edges of each of n positions with starts.
+-- The arrays hold check lists over n positions, with at most 3,070 edges: the checks' positions with starts, and each position's edges with starts.
 pub record Graph (checkStart checkBits bitStart bitEdge : List ℕ) (n : ℕ) : Type 0 where
-  pub flat : FlatChecks checkStart checkBits n
-  pub whole : joined (rowsOf checkStart checkBits) ≡ checkBits
+  pub few : length checkStart ≤ 65536
   pub fits : length checkBits ≤ 3070
-  pub starts : bitStart ≡ offsets (bitEdges n (rowsOf checkStart checkBits))
+  pub low : Below n checkBits
+  pub starts : checkStart ≡ offsets (rowsOf checkStart checkBits)
+  pub positions : checkBits ≡ joined (rowsOf checkStart checkBits)
+  pub edgeStarts : bitStart ≡ offsets (bitEdges n (rowsOf checkStart checkBits))
   pub edges : bitEdge ≡ joined (bitEdges n (rowsOf checkStart checkBits))
+
+-- the decode of a frame at the check lists that lie in the arrays
+abbrev pub decodeAt : DecodeRule → SumKind → List ℕ → List ℕ → List Float → Decode
+decodeAt rule kind checkStart checkBits llr = record { checks = rowsOf checkStart checkBits; rule = rule; kind = kind; llr = llr }

@@ -1,4 +1,4 @@
 pub mod Rounds
-pub mod Graph
 pub mod Chosen
+pub mod Graph
 pub mod Passes

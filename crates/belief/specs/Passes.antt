@@ -1,11 +1,12 @@
 -- The passes of a round over the work area, as the code makes them: part by part, and bit by bit.
 use mathlib.Core.List.{List, [], _∷_, _++_}
-use Prim.Native.Nat.{ℕ, zero, suc, _+_, _-_}
+use Prim.Native.Nat.{ℕ, zero, suc, _+_, _-_, _<_}
 use lib.Ieee.{Float, nan}
 use lib.ListN.{length, getD, take, drop, set}
 use Rattle.softmath.specs.Functions.{decide}
 use Rattle.softmath.specs.VariableNode.{decisionSum, answersAt, bitTurned}
 use Rattle.softmath.specs.declared.SumKind.{SumKind}
+use Rattle.tanner.specs.Flat.{Below, Within}
 
 -- ---- check by check
 
@@ -33,10 +34,19 @@ turns step (suc n) a = step n (turns step n a)
 unfoldable pub partAt : List ℕ → List ℕ → ℕ → List ℕ
 partAt starts flat b = take (getD starts (b + 1) 0 - getD starts b 0) (drop (getD starts b 0) flat)
 
+-- each of n bits has a part, whose edges are places of a work area of m messages
+pub record BitsWithin (starts flat : List ℕ) (n m : ℕ) : Type 0 where
+  pub parts : n < length starts
+  pub within : Within starts (length flat)
+  pub low : Below m flat
+
 -- the word and the work area
 pub record Pass : Type 0 where
   pub word : List ℕ
   pub work : List Float
+
+abbrev pub passOf : List ℕ → List Float → Pass
+passOf word work = record { word = word; work = work }
 
 -- one bit, with its channel value and its edges: its decision goes into the word, its new messages take the place of its answers
 unfoldable pub bitDone : SumKind → Float → List ℕ → ℕ → Pass → Pass

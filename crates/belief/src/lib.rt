@@ -1,1 +1,93 @@
-// The round loop that both decoders run.
+// The round loop that both decoders run, over any check list, decode rule and kind of new messages: one f32 an edge in a lent work area.
+ghost use mathlib.Core.Path.{_≡_};
+ghost use mathlib.Core.List.{_++_, map};
+ghost use Prim.Native.Nat.{ℕ, _<_, _≤_};
+ghost use lib.Ieee.{nan};
+ghost use lib.ListN.{length, getD, take, drop, replicate};
+ghost use Rattle.softmath.specs.Single.{zero32};
+ghost use Rattle.softmath.specs.Functions.{decide};
+ghost use Rattle.softmath.specs.CheckNode.{before, middle, after};
+ghost use Rattle.tanner.specs.Checks.{count};
+ghost use Rattle.tanner.specs.Flat.{Below, Within, rowsOf};
+ghost use Rattle.belief.specs.Graph.{Graph, decodeAt};
+ghost use Rattle.belief.specs.Rounds.{answers, decided, sent, initialWord, firstMessages, wordsFrom, chosenFrom, chosenCount, chosenBits};
+ghost use Rattle.belief.specs.Passes.{onFrom, turns, bitTurn, passOf, BitsWithin};
+
+use softmath::DecodeRule;
+use softmath::SumKind;
+
+// What a decode tells beside the bits.
+pub struct Decoded {
+    pub count: u16,
+}
+
+// ---- the start
+
+// What the channel values decide.
+fn initial_word(llr: &[f32], hard: &mut [u8])
+    requires { ⌜ length (now hard) ≡ length (now llr) ⌝ }
+    ensures { λ _. ⌜ now (hard .exit) ≡ map decide (now (llr .entry)) ⌝ }
+{
+    let mut i = 0;
+    while i < llr.len() {
+        hard[i] = softmath::decide(llr[i]);
+        i += 1;
+    }
+}
+
+// Each edge's message: the channel value of its position.
+fn first_messages(check_bits: &[u16], llr: &[f32], messages: &mut [f32])
+    requires { ⌜ Below (length (now llr)) (now «check_bits») ⌝ }
+    requires { ⌜ length (now messages) ≡ length (now «check_bits») ⌝ }
+    ensures { λ _. ⌜ now (messages .exit) ≡ map (λ p. getD (now (llr .entry)) p nan) (now («check_bits» .entry)) ⌝ }
+{
+    let mut e = 0;
+    while e < check_bits.len() {
+        let p = check_bits[e] as usize;
+        messages[e] = llr[p];
+        e += 1;
+    }
+}
+
+// ---- a round
+
+// The rule at each check's messages, in their place.
+fn check_pass(rule: DecodeRule, check_start: &[u16], messages: &mut [f32])
+    requires { ⌜ 0 < length (now «check_start») ⌝ }
+    requires { ⌜ Within (now «check_start») (length (now messages)) ⌝ }
+    ensures { λ _. ⌜ now (messages .exit) ≡ onFrom (middle rule) (now («check_start» .entry)) 0 (now (messages .entry)) ⌝ }
+{
+    let mut c = 0;
+    while c + 1 < check_start.len() {
+        let a = check_start[c] as usize;
+        let b = check_start[c + 1] as usize;
+        softmath::at_check(rule, &mut messages[a..b]);
+        c += 1;
+    }
+}
+
+// The check step: each message by itself, each check's together, each answer by itself.
+fn answer_pass(rule: DecodeRule, check_start: &[u16], messages: &mut [f32])
+    requires { ⌜ 0 < length (now «check_start») ⌝ }
+    requires { ⌜ Within (now «check_start») (length (now messages)) ⌝ }
+    ensures { λ _. ⌜ now (messages .exit) ≡ map (after rule) (onFrom (middle rule) (now («check_start» .entry)) 0 (map (before rule) (now (messages .entry)))) ⌝ }
+{
+    softmath::before_checks(rule, messages);
+    check_pass(rule, check_start, messages);
+    softmath::after_checks(rule, messages);
+}
+
+// Each bit's decision, and its new messages in the place of its answers.
+fn bit_pass(kind: SumKind, llr: &[f32], bit_start: &[u16], bit_edges: &[u16], messages: &mut [f32], hard: &mut [u8])
+    requires { ⌜ BitsWithin (now «bit_start») (now «bit_edges») (length (now llr)) (length (now messages)) ⌝ }
+    requires { ⌜ length (now hard) ≡ length (now llr) ⌝ }
+    ensures { λ _. ⌜ passOf (now (hard .exit)) (now (messages .exit)) ≡ turns (bitTurn kind (now (llr .entry)) (now («bit_start» .entry)) (now («bit_edges» .entry))) (length (now (llr .entry))) (passOf (now (hard .entry)) (now (messages .entry))) ⌝ }
+{
+    let mut b = 0;
+    while b < llr.len() {
+        let from = bit_start[b] as usize;
+        let to = bit_start[b + 1] as usize;
+        hard[b] = softmath::bit_step(kind, llr[b], messages, &bit_edges[from..to]);
+        b += 1;
+    }
+}

@@ -10,7 +10,7 @@ use lib.Dec.{eqb}
 use lib.ListN.{length, getD, take, drop, length-append, List·getD-append}
 use lib.Seq.{take-at, drop-at, getD-append-add}
 use Rattle.tanner.specs.Checks.{Checks}
-use Rattle.tanner.specs.Flat.{joined, ends, offsets, cut, rowsFrom, rowsOf, Below, FlatChecks}
+use Rattle.tanner.specs.Flat.{joined, ends, offsets, cut, rowsFrom, rowsOf, Below, Within, FlatChecks}
 use Rattle.tanner.proofs.Count.{AllBelow, none, more}
 
 -- ---- what lies in the arrays is the check list
@@ -44,11 +44,15 @@ ends-within [] a k h = omega arith
 ends-within (r ∷ rs) a zero h = simp length-append (omega arith)
 ends-within (r ∷ rs) a (suc k) h = simp length-append (omega (arith, ends-within rs (a + length r) k (omega arith)))
 
+pub offsets-within : (rs : Checks) → Within (offsets rs) (length (joined rs))
+unfolding Within
+offsets-within rs k h = rw add-one (omega (arith, ends-within rs 0 k (le-of-suc-le-suc (rw add-one at h))))
+
 pub flat-checks : (rs : Checks) (n : ℕ) → length rs < 65536 → Below n (joined rs) → FlatChecks (offsets rs) (joined rs) n
 flat-checks rs n few low = record {
   some = omega arith;
   few = omega (arith, ends-length 0 rs);
-  within = λ k h. rw add-one (omega (arith, ends-within rs 0 k (le-of-suc-le-suc (rw add-one at h))));
+  within = offsets-within rs;
   low = low;
 }
 
