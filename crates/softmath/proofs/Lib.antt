@@ -4,3 +4,6 @@ pub mod Signless
 pub mod MinSum
 pub mod Edges
 pub mod Steps
+pub mod Messages
+pub mod ZeroStart
+pub mod Cases
