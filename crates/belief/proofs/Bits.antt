@@ -17,6 +17,7 @@ use lib.Seq.{getD-set-same, getD-set-other, ext-getD, getD-append-add, getD-appe
 use Rattle.softmath.specs.Functions.{decide}
 use Rattle.softmath.specs.VariableNode.{decisionSum, newMessages, answersAt, EdgesWithin, Distinct, none, more, putAt, bitTurned}
 use Rattle.softmath.specs.declared.SumKind.{SumKind}
+use Rattle.softmath.proofs.Messages.{turned-put, put-other, put-same, put-length, answers-length, messages-length}
 use Rattle.tanner.specs.Flat.{joined, places, Below}
 use Rattle.tanner.proofs.Places.{places-stand, rank, rank-inside, rank-place}
 use Rattle.belief.specs.Rounds.{Decode, channel, heard, decidedFrom, decided, sentFrom, sent}
@@ -31,31 +32,6 @@ pub turn-more : (kind : SumKind) (llr : List Float) (starts edges : List ℕ) (n
     → passOf (set hard n bit) next ≡ turns (bitTurn kind llr starts edges) (n + 1) z
 unfolding turns bitTurn bitDone partAt
 turn-more kind llr starts edges n hard work next z bit i b w = rw (add-one, ← i, b, w)
-
--- ---- values put at distinct places
-
-put-length : (es : List ℕ) (vs w : List Float) → length (putAt es vs w) ≡ length w
-unfolding putAt
-put-length [] vs w = refl
-put-length (e ∷ es) [] w = refl
-put-length (e ∷ es) (v ∷ vs) w = put-length es vs (set w e v) ∙ length-set w e v
-
-put-other : (es : List ℕ) (vs w : List Float) (x : ℕ) → ((k : ℕ) → k < length es → getD es k 0 ≢ x) → getD (putAt es vs w) x nan ≡ getD w x nan
-unfolding putAt
-put-other [] vs w x h = refl
-put-other (e ∷ es) [] w x h = refl
-put-other (e ∷ es) (v ∷ vs) w x h =
-    put-other es vs (set w e v) x (λ k l. h (suc k) (omega arith))
-    ∙ getD-set-other w e x v nan (λ q. h 0 (omega arith) (sym q))
-
-put-there : {es : List ℕ} → Distinct es → (vs w : List Float) → length vs ≡ length es → ((k : ℕ) → k < length es → getD es k 0 < length w)
-    → (k : ℕ) → k < length es → getD (putAt es vs w) (getD es k 0) nan ≡ getD vs k nan
-unfolding putAt
-put-there none vs w l i k h = absurd (omega arith)
-put-there (more a ds) [] w l i k h = absurd (omega arith)
-put-there (more {e = e} {es = es} a ds) (v ∷ vs) w l i zero h = put-other es vs (set w e v) e a ∙ getD-set-same w e v nan (i 0 (omega arith))
-put-there (more {e = e} {es = es} a ds) (v ∷ vs) w l i (suc k) h =
-    put-there ds vs (set w e v) (omega arith) (λ j q. rw length-set (i (suc j) (omega arith))) k (omega arith)
 
 -- ---- a position's edges
 
@@ -119,9 +95,7 @@ module _ (d : Decode) (ans : List Float) where
 
 -- ---- the turns
 
-module _ (turned : (kind : SumKind) (l : Float) (es : List ℕ) (w : List Float) → Distinct es → EdgesWithin es (length w) → bitTurned kind l es w ≡ putAt es (newMessages kind l (answersAt w es)) w)
-    (new-length : (kind : SumKind) (l : Float) (a : List Float) → length (newMessages kind l a) ≡ length a)
-    (d : Decode) (ans : List Float) (word₀ : List ℕ) (sized : length ans ≡ length (joined (d .checks))) where
+module _ (d : Decode) (ans : List Float) (word₀ : List ℕ) (sized : length ans ≡ length (joined (d .checks))) where
   abbrev flat : List ℕ
   flat = joined (d .checks)
 
@@ -154,8 +128,11 @@ module _ (turned : (kind : SumKind) (l : Float) (es : List ℕ) (w : List Float)
     messages = newMessages (d .kind) (channel d b) (heard d ans b)
 
     put : bitTurned (d .kind) (channel d b) edges (s .work) ≡ putAt edges messages (s .work)
+    put = rw hears at (turned-put (d .kind) (channel d b) (s .work) (edges-distinct b 0 flat))
+
+    inside : EdgesWithin edges (length (s .work))
     unfolding EdgesWithin
-    put = rw hears at (turned (d .kind) (channel d b) edges (s .work) (edges-distinct b 0 flat) (λ k l. omega (arith, edge-low flat b k l, long)))
+    inside k l = omega (arith, edge-low flat b k l, long)
 
     -- a place that is no edge of b keeps what it holds
     elsewhere : (x : ℕ) → ((k : ℕ) → k < length edges → getD edges k 0 ≢ x) → getD (bitTurned (d .kind) (channel d b) edges (s .work)) x nan ≡ getD (s .work) x nan
@@ -165,16 +142,16 @@ module _ (turned : (kind : SumKind) (l : Float) (es : List ℕ) (w : List Float)
     no-edge e n k l q = n (rw q at (edge-holds flat b k l))
 
     heard-length : length (heard d ans b) ≡ length edges
-    unfolding heard answersAt
-    heard-length = length-map edges (λ (e : ℕ). getD ans e nan)
+    unfolding heard
+    heard-length = answers-length ans edges
 
     -- an edge of b gets its new message
     here : (e : ℕ) → e < length flat → getD flat e 0 ≡ b → getD (bitTurned (d .kind) (channel d b) edges (s .work)) e nan ≡ fresh e
     here e l q =
-        let inside : length (places b 0 (take e flat)) < length edges = rw q at (rank-inside flat e l) in
+        let ranked : length (places b 0 (take e flat)) < length edges = rw q at (rank-inside flat e l) in
         let place : getD edges (length (places b 0 (take e flat))) 0 ≡ e = rw q at (rank-place flat e l) in
-        let hold : length messages ≡ length edges = new-length (d .kind) (channel d b) (heard d ans b) ∙ heard-length in
-        let got = put-there (edges-distinct b 0 flat) messages (s .work) hold (λ k m. omega (arith, edge-low flat b k m, long)) _ inside in
+        let hold : length messages ≡ length edges = messages-length (d .kind) (channel d b) (heard d ans b) ∙ heard-length in
+        let got = put-same messages (s .work) _ (edges-distinct b 0 flat) inside hold ranked in
         rw (put, q) (rw place at got)
 
     new-by : (e : ℕ) → e < length flat → getD flat e 0 < suc b → Dec (getD flat e 0 < b) → getD (bitTurned (d .kind) (channel d b) edges (s .work)) e nan ≡ fresh e

@@ -2,3 +2,4 @@ pub mod Words
 pub mod Fill
 pub mod Checks
 pub mod Bits
+pub mod Round
