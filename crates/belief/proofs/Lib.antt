@@ -2,4 +2,5 @@ pub mod Words
 pub mod Fill
 pub mod Checks
 pub mod Bits
-pub mod Round
+pub mod AtGraph
+pub mod Loop

@@ -3,11 +3,12 @@ use mathlib.Core.Path.{_≡_}
 use mathlib.Core.List.{List}
 use Prim.Native.Nat.{ℕ, _≤_}
 use lib.Ieee.{Float}
-use lib.ListN.{length}
+use lib.ListN.{length, take}
 use Rattle.softmath.specs.declared.DecodeRule.{DecodeRule}
 use Rattle.softmath.specs.declared.SumKind.{SumKind}
+use Rattle.tanner.specs.Checks.{Checks, Word, count}
 use Rattle.tanner.specs.Flat.{Below, offsets, joined, rowsOf, bitEdges}
-use Rattle.belief.specs.Rounds.{Decode}
+use Rattle.belief.specs.Rounds.{Decode, answers, decided, sent}
 
 -- The arrays hold check lists over n positions, with at most 3,070 edges: the checks' positions with starts, and each position's edges with starts.
 pub record Graph (checkStart checkBits bitStart bitEdge : List ℕ) (n : ℕ) : Type 0 where
@@ -22,3 +23,14 @@ pub record Graph (checkStart checkBits bitStart bitEdge : List ℕ) (n : ℕ) : 
 -- the decode of a frame at the check lists that lie in the arrays
 abbrev pub decodeAt : DecodeRule → SumKind → List ℕ → List ℕ → List Float → Decode
 decodeAt rule kind checkStart checkBits llr = record { checks = rowsOf checkStart checkBits; rule = rule; kind = kind; llr = llr }
+
+-- after a round on the messages ms: the new messages, the word decided and its count
+pub record RoundDone (d : Decode) (ms next : List Float) (word : Word) (found : ℕ) : Type 0 where
+  pub messages : next ≡ sent d (answers d ms)
+  pub decision : word ≡ decided d (answers d ms)
+  pub counted : found ≡ count (d .checks) word
+
+-- the first k bits and the count of a word
+pub record Kept (cs : Checks) (k : ℕ) (word : Word) (bits : List ℕ) (kept : ℕ) : Type 0 where
+  pub front : bits ≡ take k word
+  pub counted : kept ≡ count cs word

@@ -9,7 +9,7 @@ ghost use Rattle.softmath.specs.Functions.{decide};
 ghost use Rattle.softmath.specs.CheckNode.{before, middle, after};
 ghost use Rattle.tanner.specs.Checks.{count};
 ghost use Rattle.tanner.specs.Flat.{Below, Within, rowsOf};
-ghost use Rattle.belief.specs.Graph.{Graph, decodeAt};
+ghost use Rattle.belief.specs.Graph.{Graph, RoundDone, Kept, decodeAt};
 ghost use Rattle.belief.specs.Rounds.{answers, decided, sent, initialWord, firstMessages, wordsFrom, chosenFrom, chosenCount, chosenBits};
 ghost use Rattle.belief.specs.Passes.{onFrom, turns, bitTurn, passOf, BitsWithin};
 
@@ -90,4 +90,55 @@ fn bit_pass(kind: SumKind, llr: &[f32], bit_start: &[u16], bit_edges: &[u16], me
         hard[b] = softmath::bit_step(kind, llr[b], messages, &bit_edges[from..to]);
         b += 1;
     }
+}
+
+// A round: check step, decision, new messages, and the count of the word decided.
+fn round(rule: DecodeRule, kind: SumKind, check_start: &[u16], check_bits: &[u16], bit_start: &[u16], bit_edges: &[u16], llr: &[f32], messages: &mut [f32], hard: &mut [u8]) -> u16
+    requires { ⌜ Graph (now «check_start») (now «check_bits») (now «bit_start») (now «bit_edges») (length (now llr)) ⌝ }
+    requires { ⌜ length (now messages) ≡ length (now «check_bits») ⌝ }
+    requires { ⌜ length (now hard) ≡ length (now llr) ⌝ }
+    ensures { λ r. ⌜ RoundDone (decodeAt rule kind (now («check_start» .entry)) (now («check_bits» .entry)) (now (llr .entry))) (now (messages .entry)) (now (messages .exit)) (now (hard .exit)) r ⌝ }
+{
+    answer_pass(rule, check_start, messages);
+    bit_pass(kind, llr, bit_start, bit_edges, messages, hard);
+    tanner::count_masked(check_start, check_bits, hard, 1)
+}
+
+// ---- the decode
+
+// The front of the word, as long as `bits`.
+fn keep_word(hard: &[u8], bits: &mut [u8])
+    requires { ⌜ length (now bits) ≤ length (now hard) ⌝ }
+    ensures { λ _. ⌜ now (bits .exit) ≡ take (length (now (bits .entry))) (now (hard .entry)) ⌝ }
+{
+    let mut i = 0;
+    while i < bits.len() {
+        bits[i] = hard[i];
+        i += 1;
+    }
+}
+
+// The rounds: left by `break` at the first word whose count is 0. `bits` keeps the front of the best word so far, and `first` is its count.
+fn rounds(rule: DecodeRule, kind: SumKind, limit: u16, check_start: &[u16], check_bits: &[u16], bit_start: &[u16], bit_edges: &[u16], llr: &[f32], first: u16, messages: &mut [f32], hard: &mut [u8], bits: &mut [u8]) -> u16
+    requires { ⌜ Graph (now «check_start») (now «check_bits») (now «bit_start») (now «bit_edges») (length (now llr)) ⌝ }
+    requires { ⌜ length (now messages) ≡ length (now «check_bits») ⌝ }
+    requires { ⌜ length (now hard) ≡ length (now llr) ⌝ }
+    requires { ⌜ length (now bits) ≤ length (now llr) ⌝ }
+    requires { ⌜ Kept (rowsOf (now «check_start») (now «check_bits»)) (length (now bits)) (now hard) (now bits) first ⌝ }
+    ensures { λ r. ⌜ Kept (rowsOf (now («check_start» .entry)) (now («check_bits» .entry))) (length (now (bits .entry))) (chosenFrom (rowsOf (now («check_start» .entry)) (now («check_bits» .entry))) (now (hard .entry)) (wordsFrom (decodeAt rule kind (now («check_start» .entry)) (now («check_bits» .entry)) (now (llr .entry))) limit (now (messages .entry)))) (now (bits .exit)) r ⌝ }
+{
+    let mut kept = first;
+    let mut done: u16 = 0;
+    while done < limit {
+        let found = round(rule, kind, check_start, check_bits, bit_start, bit_edges, llr, messages, hard);
+        done += 1;
+        if found < kept {
+            keep_word(hard, bits);
+            kept = found;
+        }
+        if found == 0 {
+            break;
+        }
+    }
+    kept
 }

@@ -13,11 +13,12 @@ use Rattle.softmath.specs.Single.{zero32}
 use Rattle.softmath.specs.declared.DecodeRule.{DecodeRule}
 use Rattle.softmath.specs.declared.SumKind.{SumKind}
 use Rattle.softmath.proofs.Steps.{step-parts, middle-length, step-length}
-use Rattle.tanner.specs.Checks.{Checks, Word}
-use Rattle.tanner.specs.Flat.{Below, Within, joined, offsets, bitEdges, places}
+use Rattle.tanner.specs.Checks.{Checks, Word, count, countMasked, lowBits}
+use Rattle.tanner.specs.Flat.{Below, Within, FlatChecks, joined, offsets, rowsOf, bitEdges, places}
+use Rattle.tanner.proofs.Count.{low-count, bits-low}
 use Rattle.tanner.proofs.Flat.{offsets-within, bit-edges-length, bit-edges-at, bit-edges-low}
 use Rattle.belief.specs.Rounds.{Decode, channel, byCheck, answers, decidedFrom, decided, sent, initialWord}
-use Rattle.belief.specs.Graph.{Graph, decodeAt}
+use Rattle.belief.specs.Graph.{Graph, RoundDone, decodeAt}
 use Rattle.belief.specs.Passes.{Pass, passOf, onFrom, partAt, bitDone, bitTurn, turns, BitsWithin}
 use Rattle.belief.proofs.Checks.{from-joined}
 use Rattle.belief.proofs.Bits.{turns-word, turns-work}
@@ -67,6 +68,9 @@ module _ (rule : DecodeRule) (kind : SumKind) (cs cb bs be : List ℕ) (llr : Li
   graph-within n e =
       subst (λ (s : List ℕ). Within s n) (sym (g .starts))
       (subst (λ (k : ℕ). Within (offsets rows) k) (ap length (sym (g .positions)) ∙ sym e) (offsets-within rows))
+
+  pub graph-flat : (n : ℕ) → n ≡ length llr → FlatChecks cs cb n
+  graph-flat n e = record { some = graph-some; few = g .few; within = graph-within (length cb) refl; low = rw e (g .low) }
 
   edges-count : length cb ≡ length (joined rows)
   edges-count = ap length (g .positions)
@@ -139,3 +143,26 @@ decided-bits d ans p (x ∷ l) (suc k) h = decided-bits d ans (suc p) l k (omega
 
 pub word-bits : (d : Decode) (ans : List Float) → Below 2 (decided d ans)
 word-bits d ans = decided-bits d ans 0 (d .llr)
+
+-- ---- what the passes of a round leave is a round
+
+pub round-done : (rule : DecodeRule) (kind : SumKind) (cs cb bs be : List ℕ) (llr : List Float) → Graph cs cb bs be (length llr)
+    → (ms ans next : List Float) (hard word : Word) (found : ℕ)
+    → length ms ≡ length cb → length hard ≡ length llr
+    → ans ≡ map (after rule) (onFrom (middle rule) cs 0 (map (before rule) ms))
+    → passOf word next ≡ turns (bitTurn kind llr bs be) (length llr) (passOf hard ans)
+    → found ≡ countMasked 1 (rowsOf cs cb) word
+    → RoundDone (decodeAt rule kind cs cb llr) ms next word found
+round-done rule kind cs cb bs be llr g ms ans next hard word found size wide a b c =
+    let d = decodeAt rule kind cs cb llr in
+    let is : ans ≡ answers d ms = a ∙ answers-law rule kind cs cb bs be llr g ms size in
+    let long : length ans ≡ length cb = ap length is ∙ answers-count rule kind cs cb bs be llr g ms size in
+    let decision : word ≡ decided d (answers d ms) =
+    ap (λ (p : Pass). p .word) b ∙ bits-word rule kind cs cb bs be llr g hard ans wide long ∙ ap (decided d) is
+    in
+    let bits : lowBits word ≡ word = bits-low word (subst (λ (w : Word). Below 2 w) (sym decision) (word-bits d (answers d ms))) in
+    record {
+      messages = ap (λ (p : Pass). p .work) b ∙ bits-work rule kind cs cb bs be llr g hard ans wide long ∙ ap (sent d) is;
+      decision = decision;
+      counted = c ∙ low-count (rowsOf cs cb) word ∙ ap (count (rowsOf cs cb)) bits;
+    }
