@@ -13,11 +13,11 @@ use Rattle.softmath.specs.Single.{zero32}
 use Rattle.softmath.specs.declared.DecodeRule.{DecodeRule}
 use Rattle.softmath.specs.declared.SumKind.{SumKind}
 use Rattle.softmath.proofs.Steps.{step-parts, middle-length, step-length}
-use Rattle.tanner.specs.Checks.{Checks, Word, count, countMasked, lowBits}
+use Rattle.tanner.specs.Checks.{Checks, Word, count, countMasked}
 use Rattle.tanner.specs.Flat.{Below, Within, FlatChecks, joined, offsets, rowsOf, bitEdges, places}
 use Rattle.tanner.proofs.Count.{low-count, bits-low}
 use Rattle.tanner.proofs.Flat.{offsets-within, bit-edges-length, bit-edges-at, bit-edges-low}
-use Rattle.belief.specs.Rounds.{Decode, channel, byCheck, answers, decidedFrom, decided, sent, initialWord}
+use Rattle.belief.specs.Rounds.{Decode, channel, byCheck, answers, decidedFrom, decided, sent, initialWord, firstMessages}
 use Rattle.belief.specs.Graph.{Graph, RoundDone, decodeAt}
 use Rattle.belief.specs.Passes.{Pass, passOf, onFrom, partAt, bitDone, bitTurn, turns, BitsWithin}
 use Rattle.belief.proofs.Checks.{from-joined}
@@ -144,6 +144,20 @@ decided-bits d ans p (x ∷ l) (suc k) h = decided-bits d ans (suc p) l k (omega
 pub word-bits : (d : Decode) (ans : List Float) → Below 2 (decided d ans)
 word-bits d ans = decided-bits d ans 0 (d .llr)
 
+pub initial-length : (d : Decode) → length (initialWord d) ≡ length (d .llr)
+unfolding initialWord
+initial-length d = length-map (d .llr) decide
+
+-- the first messages, edge by edge
+pub first-law : (rule : DecodeRule) (kind : SumKind) (cs cb bs be : List ℕ) (llr : List Float) → Graph cs cb bs be (length llr)
+    → map (λ p. getD llr p nan) cb ≡ firstMessages (decodeAt rule kind cs cb llr)
+unfolding firstMessages
+first-law rule kind cs cb bs be llr g = ap (map (λ (p : ℕ). getD llr p nan)) (g .positions)
+
+-- a word of bits is counted by its low bits
+pub counted-word : (cs : Checks) (w : Word) (found : ℕ) → Below 2 w → found ≡ countMasked 1 cs w → found ≡ count cs w
+counted-word cs w found b e = e ∙ low-count cs w ∙ ap (count cs) (bits-low w b)
+
 -- ---- what the passes of a round leave is a round
 
 pub round-done : (rule : DecodeRule) (kind : SumKind) (cs cb bs be : List ℕ) (llr : List Float) → Graph cs cb bs be (length llr)
@@ -160,9 +174,8 @@ round-done rule kind cs cb bs be llr g ms ans next hard word found size wide a b
     let decision : word ≡ decided d (answers d ms) =
     ap (λ (p : Pass). p .word) b ∙ bits-word rule kind cs cb bs be llr g hard ans wide long ∙ ap (decided d) is
     in
-    let bits : lowBits word ≡ word = bits-low word (subst (λ (w : Word). Below 2 w) (sym decision) (word-bits d (answers d ms))) in
     record {
       messages = ap (λ (p : Pass). p .work) b ∙ bits-work rule kind cs cb bs be llr g hard ans wide long ∙ ap (sent d) is;
       decision = decision;
-      counted = c ∙ low-count (rowsOf cs cb) word ∙ ap (count (rowsOf cs cb)) bits;
+      counted = counted-word (rowsOf cs cb) word found (subst (λ (w : Word). Below 2 w) (sym decision) (word-bits d (answers d ms))) c;
     }

@@ -4,3 +4,4 @@ pub mod Checks
 pub mod Bits
 pub mod AtGraph
 pub mod Loop
+pub mod Whole

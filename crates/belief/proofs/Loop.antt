@@ -9,7 +9,7 @@ use lib.Dec.{eqb, ltb}
 use lib.Ieee.{Float}
 use lib.ListN.{take}
 use Rattle.tanner.specs.Checks.{Checks, Word, count}
-use Rattle.belief.specs.Rounds.{Decode, answers, decided, sent, wordsFrom, unlessDone, better, chosenFrom}
+use Rattle.belief.specs.Rounds.{Decode, answers, decided, sent, firstMessages, initialWord, wordsFrom, roundWords, unlessDone, better, chosenFrom, chosen, chosenCount, chosenBits}
 use Rattle.belief.specs.Graph.{RoundDone, Kept}
 
 -- with `left` rounds to go from the messages ms: the kept word, and that the choice from here is the goal
@@ -54,3 +54,27 @@ module _ (d : Decode) (k left : ℕ) (ms next : List Float) (w : Word) (bits bit
 pub rounds-out : (d : Decode) (k : ℕ) (ms : List Float) (bits : List ℕ) (kept : ℕ) (goal : Word) → Running d k 0 ms bits kept goal → Kept (d .checks) k goal bits kept
 unfolding wordsFrom chosenFrom
 rounds-out d k ms bits kept goal s = subst (λ (v : Word). Kept (d .checks) k v bits kept) (s .ahead) (s .held)
+
+-- ---- before the rounds: none where the initial word satisfies every check
+
+module _ (d : Decode) (k limit : ℕ) (bits : List ℕ) (first : ℕ) where
+  pub none-run : first ≡ 0 → Kept (d .checks) k (initialWord d) bits first → Kept (d .checks) k (chosen d limit) bits first
+  unfolding chosen roundWords chosenFrom
+  none-run e h =
+      let t : eqb (count (d .checks) (initialWord d)) 0 ≡ true = eq-eqb (count (d .checks) (initialWord d)) 0 (sym (h .counted) ∙ e) in
+      rw t h
+
+  pub some-run : (before : ℕ) → (before ≡ 0 → ⊥) → before ≡ count (d .checks) (initialWord d)
+      → Kept (d .checks) k (chosenFrom (d .checks) (initialWord d) (wordsFrom d limit (firstMessages d))) bits first → Kept (d .checks) k (chosen d limit) bits first
+  unfolding chosen roundWords
+  some-run before n e h =
+      let t : eqb (count (d .checks) (initialWord d)) 0 ≡ false = ne-eqb (count (d .checks) (initialWord d)) 0 (λ z. n (e ∙ z)) in
+      rw t h
+
+pub kept-count : (d : Decode) (k limit : ℕ) (bits : List ℕ) (found : ℕ) → Kept (d .checks) k (chosen d limit) bits found → found ≡ chosenCount d limit
+unfolding chosenCount
+kept-count d k limit bits found h = h .counted
+
+pub kept-bits : (d : Decode) (k limit : ℕ) (bits : List ℕ) (found : ℕ) → Kept (d .checks) k (chosen d limit) bits found → bits ≡ chosenBits d limit k
+unfolding chosenBits
+kept-bits d k limit bits found h = h .front

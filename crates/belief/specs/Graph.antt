@@ -1,9 +1,10 @@
 -- A code's Tanner graph in arrays, as the decoder reads it.
 use mathlib.Core.Path.{_≡_}
-use mathlib.Core.List.{List}
+use mathlib.Core.List.{List, _++_}
 use Prim.Native.Nat.{ℕ, _≤_}
 use lib.Ieee.{Float}
-use lib.ListN.{length, take}
+use lib.ListN.{length, take, drop, replicate}
+use Rattle.softmath.specs.Single.{zero32}
 use Rattle.softmath.specs.declared.DecodeRule.{DecodeRule}
 use Rattle.softmath.specs.declared.SumKind.{SumKind}
 use Rattle.tanner.specs.Checks.{Checks, Word, count}
@@ -34,3 +35,7 @@ pub record RoundDone (d : Decode) (ms next : List Float) (word : Word) (found : 
 pub record Kept (cs : Checks) (k : ℕ) (word : Word) (bits : List ℕ) (kept : ℕ) : Type 0 where
   pub front : bits ≡ take k word
   pub counted : kept ≡ count cs word
+
+-- the work area after an accepted call: "its first 3,070 are +0.0 and the rest are unchanged"
+abbrev pub cleared : List Float → List Float
+cleared work = replicate 3070 zero32 ++ drop 3070 work

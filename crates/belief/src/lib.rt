@@ -9,8 +9,8 @@ ghost use Rattle.softmath.specs.Functions.{decide};
 ghost use Rattle.softmath.specs.CheckNode.{before, middle, after};
 ghost use Rattle.tanner.specs.Checks.{count};
 ghost use Rattle.tanner.specs.Flat.{Below, Within, rowsOf};
-ghost use Rattle.belief.specs.Graph.{Graph, RoundDone, Kept, decodeAt};
-ghost use Rattle.belief.specs.Rounds.{answers, decided, sent, initialWord, firstMessages, wordsFrom, chosenFrom, chosenCount, chosenBits};
+ghost use Rattle.belief.specs.Graph.{Graph, RoundDone, Kept, decodeAt, cleared};
+ghost use Rattle.belief.specs.Rounds.{answers, decided, sent, initialWord, firstMessages, wordsFrom, chosenFrom, chosen, chosenCount, chosenBits};
 ghost use Rattle.belief.specs.Passes.{onFrom, turns, bitTurn, passOf, BitsWithin};
 
 use softmath::DecodeRule;
@@ -141,4 +141,64 @@ fn rounds(rule: DecodeRule, kind: SumKind, limit: u16, check_start: &[u16], chec
         }
     }
     kept
+}
+
+// The rounds, unless the initial word, which `hard` and `bits` hold, satisfies every check.
+fn improve(rule: DecodeRule, kind: SumKind, limit: u16, check_start: &[u16], check_bits: &[u16], bit_start: &[u16], bit_edges: &[u16], llr: &[f32], first: u16, messages: &mut [f32], hard: &mut [u8], bits: &mut [u8]) -> u16
+    requires { ⌜ Graph (now «check_start») (now «check_bits») (now «bit_start») (now «bit_edges») (length (now llr)) ⌝ }
+    requires { ⌜ length (now messages) ≡ length (now «check_bits») ⌝ }
+    requires { ⌜ now hard ≡ initialWord (decodeAt rule kind (now «check_start») (now «check_bits») (now llr)) ⌝ }
+    requires { ⌜ length (now bits) ≤ length (now llr) ⌝ }
+    requires { ⌜ Kept (rowsOf (now «check_start») (now «check_bits»)) (length (now bits)) (now hard) (now bits) first ⌝ }
+    ensures { λ r. ⌜ Kept (rowsOf (now («check_start» .entry)) (now («check_bits» .entry))) (length (now (bits .entry))) (chosen (decodeAt rule kind (now («check_start» .entry)) (now («check_bits» .entry)) (now (llr .entry))) limit) (now (bits .exit)) r ⌝ }
+{
+    if first == 0 {
+        return first;
+    }
+    first_messages(check_bits, llr, messages);
+    rounds(rule, kind, limit, check_start, check_bits, bit_start, bit_edges, llr, first, messages, hard, bits)
+}
+
+// The chosen word's front and its count, from the channel values.
+fn choose(rule: DecodeRule, kind: SumKind, limit: u16, check_start: &[u16], check_bits: &[u16], bit_start: &[u16], bit_edges: &[u16], llr: &[f32], messages: &mut [f32], hard: &mut [u8], bits: &mut [u8]) -> u16
+    requires { ⌜ Graph (now «check_start») (now «check_bits») (now «bit_start») (now «bit_edges») (length (now llr)) ⌝ }
+    requires { ⌜ length (now messages) ≡ length (now «check_bits») ⌝ }
+    requires { ⌜ length (now hard) ≡ length (now llr) ⌝ }
+    requires { ⌜ length (now bits) ≤ length (now llr) ⌝ }
+    ensures { λ r. ⌜ Kept (rowsOf (now («check_start» .entry)) (now («check_bits» .entry))) (length (now (bits .entry))) (chosen (decodeAt rule kind (now («check_start» .entry)) (now («check_bits» .entry)) (now (llr .entry))) limit) (now (bits .exit)) r ⌝ }
+{
+    initial_word(llr, hard);
+    let first = tanner::count_masked(check_start, check_bits, hard, 1);
+    keep_word(hard, bits);
+    improve(rule, kind, limit, check_start, check_bits, bit_start, bit_edges, llr, first, messages, hard, bits)
+}
+
+// Every place +0.0.
+fn clear(part: &mut [f32])
+    ensures { λ _. ⌜ now (part .exit) ≡ replicate (length (now (part .entry))) zero32 ⌝ }
+{
+    let mut i = 0;
+    while i < part.len() {
+        part[i] = 0.0;
+        i += 1;
+    }
+}
+
+// A frame's decode at a code's graph: the chosen word's first bits, as many as `bits` has places, and its count. Document 01's work area: its first
+// 3,070 places are +0.0 afterwards, and the rest is unchanged.
+pub fn decode(rule: DecodeRule, kind: SumKind, limit: u16, check_start: &[u16], check_bits: &[u16], bit_start: &[u16], bit_edges: &[u16], llr: &[f32], bits: &mut [u8], work: &mut [f32]) -> Decoded
+    requires { ⌜ Graph (now «check_start») (now «check_bits») (now «bit_start») (now «bit_edges») (length (now llr)) ⌝ }
+    requires { ⌜ length (now llr) ≤ 576 ⌝ }
+    requires { ⌜ length (now bits) ≤ length (now llr) ⌝ }
+    requires { ⌜ 3070 ≤ length (now work) ⌝ }
+    ensures { λ r. ⌜ r .count ≡ chosenCount (decodeAt rule kind (now («check_start» .entry)) (now («check_bits» .entry)) (now (llr .entry))) limit ⌝ }
+    ensures { λ _. ⌜ now (bits .exit) ≡ chosenBits (decodeAt rule kind (now («check_start» .entry)) (now («check_bits» .entry)) (now (llr .entry))) limit (length (now (bits .entry))) ⌝ }
+    ensures { λ _. ⌜ now (work .exit) ≡ cleared (now (work .entry)) ⌝ }
+{
+    let mut hard = [0u8; 576];
+    let n = llr.len();
+    let edges = check_bits.len();
+    let count = choose(rule, kind, limit, check_start, check_bits, bit_start, bit_edges, llr, &mut work[..edges], &mut hard[..n], bits);
+    clear(&mut work[..3070]);
+    Decoded { count: count }
 }
