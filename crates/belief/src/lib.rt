@@ -12,7 +12,6 @@ ghost use Rattle.tanner.specs.Flat.{Below, Within, rowsOf};
 ghost use Rattle.belief.specs.Graph.{Graph, RoundDone, Kept, decodeAt, cleared};
 ghost use Rattle.belief.specs.Rounds.{answers, decided, sent, initialWord, firstMessages, wordsFrom, chosenFrom, chosen, chosenCount, chosenBits};
 ghost use Rattle.belief.specs.Passes.{onFrom, turns, bitTurn, passOf, BitsWithin};
-
 use softmath::DecodeRule;
 use softmath::SumKind;
 
@@ -78,7 +77,14 @@ fn answer_pass(rule: DecodeRule, check_start: &[u16], messages: &mut [f32])
 }
 
 // Each bit's decision, and its new messages in the place of its answers.
-fn bit_pass(kind: SumKind, llr: &[f32], bit_start: &[u16], bit_edges: &[u16], messages: &mut [f32], hard: &mut [u8])
+fn bit_pass(
+    kind: SumKind,
+    llr: &[f32],
+    bit_start: &[u16],
+    bit_edges: &[u16],
+    messages: &mut [f32],
+    hard: &mut [u8],
+)
     requires { ⌜ BitsWithin (now «bit_start») (now «bit_edges») (length (now llr)) (length (now messages)) ⌝ }
     requires { ⌜ length (now hard) ≡ length (now llr) ⌝ }
     ensures { λ _. ⌜ passOf (now (hard .exit)) (now (messages .exit)) ≡ turns (bitTurn kind (now (llr .entry)) (now («bit_start» .entry)) (now («bit_edges» .entry))) (length (now (llr .entry))) (passOf (now (hard .entry)) (now (messages .entry))) ⌝ }
@@ -93,7 +99,17 @@ fn bit_pass(kind: SumKind, llr: &[f32], bit_start: &[u16], bit_edges: &[u16], me
 }
 
 // A round: check step, decision, new messages, and the count of the word decided.
-fn round(rule: DecodeRule, kind: SumKind, check_start: &[u16], check_bits: &[u16], bit_start: &[u16], bit_edges: &[u16], llr: &[f32], messages: &mut [f32], hard: &mut [u8]) -> u16
+fn round(
+    rule: DecodeRule,
+    kind: SumKind,
+    check_start: &[u16],
+    check_bits: &[u16],
+    bit_start: &[u16],
+    bit_edges: &[u16],
+    llr: &[f32],
+    messages: &mut [f32],
+    hard: &mut [u8],
+) -> u16
     requires { ⌜ Graph (now «check_start») (now «check_bits») (now «bit_start») (now «bit_edges») (length (now llr)) ⌝ }
     requires { ⌜ length (now messages) ≡ length (now «check_bits») ⌝ }
     requires { ⌜ length (now hard) ≡ length (now llr) ⌝ }
@@ -119,7 +135,20 @@ fn keep_word(hard: &[u8], bits: &mut [u8])
 }
 
 // The rounds: left by `break` at the first word whose count is 0. `bits` keeps the front of the best word so far, and `first` is its count.
-fn rounds(rule: DecodeRule, kind: SumKind, limit: u16, check_start: &[u16], check_bits: &[u16], bit_start: &[u16], bit_edges: &[u16], llr: &[f32], first: u16, messages: &mut [f32], hard: &mut [u8], bits: &mut [u8]) -> u16
+fn rounds(
+    rule: DecodeRule,
+    kind: SumKind,
+    limit: u16,
+    check_start: &[u16],
+    check_bits: &[u16],
+    bit_start: &[u16],
+    bit_edges: &[u16],
+    llr: &[f32],
+    first: u16,
+    messages: &mut [f32],
+    hard: &mut [u8],
+    bits: &mut [u8],
+) -> u16
     requires { ⌜ Graph (now «check_start») (now «check_bits») (now «bit_start») (now «bit_edges») (length (now llr)) ⌝ }
     requires { ⌜ length (now messages) ≡ length (now «check_bits») ⌝ }
     requires { ⌜ length (now hard) ≡ length (now llr) ⌝ }
@@ -130,7 +159,17 @@ fn rounds(rule: DecodeRule, kind: SumKind, limit: u16, check_start: &[u16], chec
     let mut kept = first;
     let mut done: u16 = 0;
     while done < limit {
-        let found = round(rule, kind, check_start, check_bits, bit_start, bit_edges, llr, messages, hard);
+        let found = round(
+            rule,
+            kind,
+            check_start,
+            check_bits,
+            bit_start,
+            bit_edges,
+            llr,
+            messages,
+            hard,
+        );
         done += 1;
         if found < kept {
             keep_word(hard, bits);
@@ -144,7 +183,20 @@ fn rounds(rule: DecodeRule, kind: SumKind, limit: u16, check_start: &[u16], chec
 }
 
 // The rounds, unless the initial word, which `hard` and `bits` hold, satisfies every check.
-fn improve(rule: DecodeRule, kind: SumKind, limit: u16, check_start: &[u16], check_bits: &[u16], bit_start: &[u16], bit_edges: &[u16], llr: &[f32], first: u16, messages: &mut [f32], hard: &mut [u8], bits: &mut [u8]) -> u16
+fn improve(
+    rule: DecodeRule,
+    kind: SumKind,
+    limit: u16,
+    check_start: &[u16],
+    check_bits: &[u16],
+    bit_start: &[u16],
+    bit_edges: &[u16],
+    llr: &[f32],
+    first: u16,
+    messages: &mut [f32],
+    hard: &mut [u8],
+    bits: &mut [u8],
+) -> u16
     requires { ⌜ Graph (now «check_start») (now «check_bits») (now «bit_start») (now «bit_edges») (length (now llr)) ⌝ }
     requires { ⌜ length (now messages) ≡ length (now «check_bits») ⌝ }
     requires { ⌜ now hard ≡ initialWord (decodeAt rule kind (now «check_start») (now «check_bits») (now llr)) ⌝ }
@@ -156,11 +208,36 @@ fn improve(rule: DecodeRule, kind: SumKind, limit: u16, check_start: &[u16], che
         return first;
     }
     first_messages(check_bits, llr, messages);
-    rounds(rule, kind, limit, check_start, check_bits, bit_start, bit_edges, llr, first, messages, hard, bits)
+    rounds(
+        rule,
+        kind,
+        limit,
+        check_start,
+        check_bits,
+        bit_start,
+        bit_edges,
+        llr,
+        first,
+        messages,
+        hard,
+        bits,
+    )
 }
 
 // The chosen word's front and its count, from the channel values.
-fn choose(rule: DecodeRule, kind: SumKind, limit: u16, check_start: &[u16], check_bits: &[u16], bit_start: &[u16], bit_edges: &[u16], llr: &[f32], messages: &mut [f32], hard: &mut [u8], bits: &mut [u8]) -> u16
+fn choose(
+    rule: DecodeRule,
+    kind: SumKind,
+    limit: u16,
+    check_start: &[u16],
+    check_bits: &[u16],
+    bit_start: &[u16],
+    bit_edges: &[u16],
+    llr: &[f32],
+    messages: &mut [f32],
+    hard: &mut [u8],
+    bits: &mut [u8],
+) -> u16
     requires { ⌜ Graph (now «check_start») (now «check_bits») (now «bit_start») (now «bit_edges») (length (now llr)) ⌝ }
     requires { ⌜ length (now messages) ≡ length (now «check_bits») ⌝ }
     requires { ⌜ length (now hard) ≡ length (now llr) ⌝ }
@@ -170,7 +247,20 @@ fn choose(rule: DecodeRule, kind: SumKind, limit: u16, check_start: &[u16], chec
     initial_word(llr, hard);
     let first = tanner::count_masked(check_start, check_bits, hard, 1);
     keep_word(hard, bits);
-    improve(rule, kind, limit, check_start, check_bits, bit_start, bit_edges, llr, first, messages, hard, bits)
+    improve(
+        rule,
+        kind,
+        limit,
+        check_start,
+        check_bits,
+        bit_start,
+        bit_edges,
+        llr,
+        first,
+        messages,
+        hard,
+        bits,
+    )
 }
 
 // Every place +0.0.
@@ -186,7 +276,18 @@ fn clear(part: &mut [f32])
 
 // A frame's decode at a code's graph: the chosen word's first bits, as many as `bits` has places, and its count. Document 01's work area: its first
 // 3,070 places are +0.0 afterwards, and the rest is unchanged.
-pub fn decode(rule: DecodeRule, kind: SumKind, limit: u16, check_start: &[u16], check_bits: &[u16], bit_start: &[u16], bit_edges: &[u16], llr: &[f32], bits: &mut [u8], work: &mut [f32]) -> Decoded
+pub fn decode(
+    rule: DecodeRule,
+    kind: SumKind,
+    limit: u16,
+    check_start: &[u16],
+    check_bits: &[u16],
+    bit_start: &[u16],
+    bit_edges: &[u16],
+    llr: &[f32],
+    bits: &mut [u8],
+    work: &mut [f32],
+) -> Decoded
     requires { ⌜ Graph (now «check_start») (now «check_bits») (now «bit_start») (now «bit_edges») (length (now llr)) ⌝ }
     requires { ⌜ length (now llr) ≤ 576 ⌝ }
     requires { ⌜ length (now bits) ≤ length (now llr) ⌝ }
@@ -198,7 +299,19 @@ pub fn decode(rule: DecodeRule, kind: SumKind, limit: u16, check_start: &[u16], 
     let mut hard = [0u8; 576];
     let n = llr.len();
     let edges = check_bits.len();
-    let count = choose(rule, kind, limit, check_start, check_bits, bit_start, bit_edges, llr, &mut work[..edges], &mut hard[..n], bits);
+    let count = choose(
+        rule,
+        kind,
+        limit,
+        check_start,
+        check_bits,
+        bit_start,
+        bit_edges,
+        llr,
+        &mut work[..edges],
+        &mut hard[..n],
+        bits,
+    );
     clear(&mut work[..3070]);
     Decoded { count: count }
 }

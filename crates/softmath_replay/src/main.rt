@@ -11,6 +11,7 @@ ghost use Prim.Native.Nat.{_<_, _≤_};
 ghost use lib.ListN.{length};
 
 const MOST_RECORDS: usize = 8192;
+
 const FLOATS: usize = 11;
 
 // Where a bit's answers lie among the floats: scattered, each place once.

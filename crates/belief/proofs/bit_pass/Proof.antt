@@ -18,7 +18,7 @@ use Rattle.belief.proofs.bit_pass.Lts as lts
 use Rattle.softmath.proofs.bit_step.Reads as bit-step-reads
 
 abbrev Inv-loop : tie.InvT-loop
-Inv-loop kind llr bit-start bit-edges messages₀ hard₀ b₀ messages hard b = 
+Inv-loop kind llr bit-start bit-edges messages₀ hard₀ b₀ messages hard b =
     (b ≤ length llr) × (length hard ≡ length llr) × (length messages ≡ length messages₀)
     × (passOf hard messages ≡ turns (bitTurn kind llr bit-start bit-edges) b (passOf hard₀ messages₀))
 
@@ -79,7 +79,7 @@ part-bit-step-end c = omega (arith, bounds (c .before .before .before .before))
 
 bit-step-requires : tie.Need-bit-step-requires Inv-loop μ-loop
 unfolding EdgesWithin Below
-bit-step-requires c κs = 
+bit-step-requires c κs =
     let loop = c .before .before .before .before .before .before in
     let start = loop .before .before .before .before .before .before in
     let s = start .args .bit-start .now in
@@ -95,7 +95,7 @@ loop-less : tie.Need-loop-less Inv-loop μ-loop
 loop-less c = search needs
 
 loop-again : tie.Need-loop-again Inv-loop μ-loop
-loop-again c = 
+loop-again c =
     let turn = c .before .before .before .before .before .before .before in
     (search needs, simp length-set (omega arith), search needs, turn-more _ _ _ _ _ _ _ _ _ _ (turn .before .before .loop .inv .3) (c .before .before .bit-step .ensures .0) (c .before .before .bit-step .ensures .1))
 
@@ -106,7 +106,7 @@ same-length-2 : tie.Need-same-length-2 Inv-loop μ-loop
 same-length-2 c = search needs
 
 returns : tie.Need-returns Inv-loop μ-loop
-returns c = 
+returns c =
     let e : c .before .loop .b ≡ length (c .before .before .before .before .before .before .before .args .llr .now) = omega arith in
     rw e at (c .before .loop .inv .3)
 

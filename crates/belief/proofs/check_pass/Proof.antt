@@ -78,7 +78,7 @@ loop-less : tie.Need-loop-less Inv-loop μ-loop
 loop-less c = search needs
 
 loop-again : tie.Need-loop-again Inv-loop μ-loop
-loop-again c = 
+loop-again c =
     let turn = c .before .before .before .before .before .before in
     (search needs, search needs, parts-more (middle _) _ _ _ _ _ (turn .loop-test .taken) (c .before .before .at-check .ensures) (turn .before .loop .inv .2))
 

@@ -18,28 +18,27 @@ initial-word-requires : tie.Need-initial-word-requires
 initial-word-requires c κs = search needs
 
 count-masked-requires : tie.Need-count-masked-requires
-count-masked-requires c κs = 
+count-masked-requires c κs =
     let first = c .before .before .before in
     let start = first .before .before .before .before .before .before .before .before .before .before in
     let a = start .args in
     graph-flat (a .rule) (a .kind) _ _ _ _ (a .llr .now) (start .pre .0) _ (first .initial-word .kept .1 .0 ∙ start .pre .1 .1 .0)
 
 keep-word-requires : tie.Need-keep-word-requires
-keep-word-requires c κs = 
+keep-word-requires c κs =
     let first = c .before .before .before .before .before .before in
     let start = first .before .before .before .before .before .before .before .before .before .before in
     omega (arith, first .initial-word .kept .1 .0, start .pre .1 .1 .0, start .pre .1 .1 .1)
 
 improve-requires : tie.Need-improve-requires
-improve-requires c κs = 
+improve-requires c κs =
     let kept = c .before .before .before .before .before in
     let counted = kept .before .before .before in
     let first = counted .before .before .before .before in
     let start = first .before .before .before .before .before .before .before .before .before .before in
     let a = start .args in
     let word = first .initial-word .ensures in
-    let size = kept .keep-word .kept .1 .0 in
-    (
+    let size = kept .keep-word .kept .1 .0 in (
       start .pre .0,
       (
         start .pre .1 .0,
@@ -63,7 +62,7 @@ same-length-3 : tie.Need-same-length-3
 same-length-3 c = search needs
 
 returns : tie.Need-returns
-returns c = 
+returns c =
     let done = c .before .before .before .before .before .before in
     let kept = done .before .before .before .before .before .before in
     rw (kept .keep-word .kept .1 .0) at (done .improve .ensures)

@@ -33,10 +33,9 @@ loop-less : tie.Need-loop-less Inv-loop μ-loop
 loop-less c = search needs
 
 loop-again : tie.Need-loop-again Inv-loop μ-loop
-loop-again c = 
+loop-again c =
     let n = length (c .before .before .args .part .now) in
-    let now = c .before .loop in
-    (
+    let now = c .before .loop in (
       omega arith,
       simp length-set (omega arith),
       fill-more (replicate n zero32) zero32 now.part now.i _ (simp length-replicate (omega arith)) (simp length-replicate (omega arith)) (sym (getD-replicate n now.i zero32 zero32 (omega arith))) now.inv.2,
@@ -46,7 +45,7 @@ same-length : tie.Need-same-length Inv-loop μ-loop
 same-length c = search needs
 
 returns : tie.Need-returns Inv-loop μ-loop
-returns c = 
+returns c =
     let n = length (c .before .before .args .part .now) in
     fill-done (replicate n zero32) zero32 (c .before .loop .part) (c .before .loop .i) (simp length-replicate (omega arith)) (simp length-replicate (omega arith)) (c .before .loop .inv .2)
 

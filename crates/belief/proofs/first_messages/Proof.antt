@@ -52,11 +52,10 @@ loop-less : tie.Need-loop-less Inv-loop μ-loop
 loop-less c = search needs
 
 loop-again : tie.Need-loop-again Inv-loop μ-loop
-loop-again c = 
+loop-again c =
     let start = c .before .before .before .before in
     let now = c .before .before .before .loop in
-    let llr = start .args .llr .now in
-    (
+    let llr = start .args .llr .now in (
       omega arith,
       simp length-set (omega arith),
       fill-more (map (λ p. getD llr p nan) (start .args .check-bits .now)) (getD llr 0 nan) now.messages now.e _ (simp length-map (omega arith)) (simp length-map (omega arith)) (sym (List·getD-map (λ p. getD llr p nan) (start .args .check-bits .now) now.e 0)) now.inv.2,
@@ -66,7 +65,7 @@ same-length : tie.Need-same-length Inv-loop μ-loop
 same-length c = search needs
 
 returns : tie.Need-returns Inv-loop μ-loop
-returns c = 
+returns c =
     let start = c .before .before in
     let llr = start .args .llr .now in
     fill-done (map (λ p. getD llr p nan) (start .args .check-bits .now)) (getD llr 0 nan) (c .before .loop .messages) (c .before .loop .e) (simp length-map (omega arith)) (simp length-map (omega arith)) (c .before .loop .inv .2)

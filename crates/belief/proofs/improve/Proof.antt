@@ -12,7 +12,7 @@ use Rattle.belief.proofs.first_messages.Reads as first-messages-reads
 use Rattle.belief.proofs.rounds.Reads as rounds-reads
 
 returns : tie.Need-returns
-returns c = 
+returns c =
     let start = c .before .before .before .before .before .before .before .before .before in
     let a = start .args in
     run-none (a .rule) (a .kind) (a .check-start .now) (a .check-bits .now) (a .llr .now) _ _ _ (start .pre .1 .1 .0) _ _ (c .if1 .taken) (start .pre .1 .1 .1 .1)
@@ -21,7 +21,7 @@ first-messages-requires : tie.Need-first-messages-requires
 first-messages-requires c κs = search needs
 
 rounds-requires : tie.Need-rounds-requires
-rounds-requires c κs = 
+rounds-requires c κs =
     let first = c .before .before .before .before .before in
     let p = first .before .before .before .before .before .before .before .before .before .before .before .pre in
     (p .0, (first .first-messages .kept .1 .1 .0 ∙ p .1 .0, (ap length (p .1 .1 .0) ∙ initial-length _, (p .1 .1 .1 .0, p .1 .1 .1 .1))))
@@ -36,7 +36,7 @@ same-length-3 : tie.Need-same-length-3
 same-length-3 c = search needs
 
 returns-2 : tie.Need-returns-2
-returns-2 c = 
+returns-2 c =
     let done = c .before .before .before .before .before .before in
     let first = done .before .before .before .before .before .before in
     let start = first .before .before .before .before .before .before .before .before .before .before .before in

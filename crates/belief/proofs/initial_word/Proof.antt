@@ -44,8 +44,7 @@ loop-less c = search needs
 loop-again : tie.Need-loop-again Inv-loop μ-loop
 loop-again c =
     let llr = c .before .before .before .before .before .before .args .llr .now in
-    let now = c .before .before .before .loop in
-    (
+    let now = c .before .before .before .loop in (
       omega arith,
       simp length-set (omega arith),
       fill-more (map decide llr) (decide nan) now.hard now.i _ (simp length-map (omega arith)) (simp length-map (omega arith)) (c .decide .ensures ∙ sym (List·getD-map decide llr now.i nan)) now.inv.2,

@@ -33,13 +33,12 @@ loop-less : tie.Need-loop-less Inv-loop μ-loop
 loop-less c = search needs
 
 loop-again : tie.Need-loop-again Inv-loop μ-loop
-loop-again c = 
+loop-again c =
     let start = c .before .before .before in
     let hard = start .args .hard .now in
     let n = length (start .args .bits .now) in
     let now = c .before .before .loop in
-    let size = length-take-le n hard (omega arith) in
-    (
+    let size = length-take-le n hard (omega arith) in (
       omega arith,
       simp length-set (omega arith),
       fill-more (take n hard) 0 now.bits now.i _ (omega arith) (omega arith) (sym (getD-take n hard now.i 0 (omega arith))) now.inv.2,
@@ -49,7 +48,7 @@ same-length : tie.Need-same-length Inv-loop μ-loop
 same-length c = search needs
 
 returns : tie.Need-returns Inv-loop μ-loop
-returns c = 
+returns c =
     let start = c .before .before in
     let n = length (start .args .bits .now) in
     let size = length-take-le n (start .args .hard .now) (omega arith) in

@@ -11,21 +11,21 @@ use Rattle.belief.proofs.bit_pass.Reads as bit-pass-reads
 use Rattle.tanner.proofs.count_masked.Reads as count-masked-reads
 
 answer-pass-requires : tie.Need-answer-pass-requires
-answer-pass-requires c κs = 
+answer-pass-requires c κs =
     let start = c .before .before .before .before .before .before .before .before in
     let a = start .args in
     let g = start .pre .0 in
     (graph-some (a .rule) (a .kind) _ _ _ _ (a .llr .now) g, graph-within (a .rule) (a .kind) _ _ _ _ (a .llr .now) g _ (start .pre .1 .0))
 
 bit-pass-requires : tie.Need-bit-pass-requires
-bit-pass-requires c κs = 
+bit-pass-requires c κs =
     let first = c .before .before .before .before in
     let start = first .before .before .before .before .before .before .before .before .before in
     let a = start .args in
     (graph-bits (a .rule) (a .kind) _ _ _ _ (a .llr .now) (start .pre .0) _ (first .answer-pass .kept .1 .1 .0 ∙ start .pre .1 .0), start .pre .1 .1)
 
 count-masked-requires : tie.Need-count-masked-requires
-count-masked-requires c κs = 
+count-masked-requires c κs =
     let second = c .before .before .before .before .before in
     let start = second .before .before .before .before .before .before .before .before .before .before .before .before .before .before in
     let a = start .args in
@@ -38,7 +38,7 @@ same-length-2 : tie.Need-same-length-2
 same-length-2 c = search needs
 
 returns : tie.Need-returns
-returns c = 
+returns c =
     let second = c .before .before .before .before .before .before in
     let first = second .before .before .before .before .before in
     let start = first .before .before .before .before .before .before .before .before .before in

@@ -20,7 +20,7 @@ use Rattle.belief.proofs.keep_word.Reads as keep-word-reads
 use Rattle.belief.proofs.round.Reads as round-reads
 
 abbrev Inv-loop : tie.InvT-loop
-Inv-loop rule kind limit check-start check-bits bit-start bit-edges llr first messages₀ hard₀ bits₀ kept₀ done₀ messages hard bits kept done = 
+Inv-loop rule kind limit check-start check-bits bit-start bit-edges llr first messages₀ hard₀ bits₀ kept₀ done₀ messages hard bits kept done =
     let d = decodeAt rule kind check-start check-bits llr in
     (done ≤ limit) × (length messages ≡ length check-bits) × (length hard ≡ length llr) × (length bits ≡ length bits₀)
     × Running d (length bits₀) (limit - done) messages bits kept (chosenFrom (d .checks) hard₀ (wordsFrom d limit messages₀))
@@ -55,12 +55,12 @@ kept-at c =
     (c .if1 .came)
 
 loop-holds : tie.Need-loop-holds Inv-loop μ-loop
-loop-holds c = 
+loop-holds c =
     let start = c .before .before .before .before .before .before .before .before in
     (omega arith, start .pre .1 .0, start .pre .1 .1 .0, refl, rw sub-zero (record { word = _; held = start .pre .1 .1 .1 .1; ahead = refl }))
 
 round-requires : tie.Need-round-requires Inv-loop μ-loop
-round-requires c κs = 
+round-requires c κs =
     let loop = c .before .before .before in
     (loop .before .before .before .before .before .before .before .before .before .pre .0, (loop .loop .inv .1, loop .loop .inv .2))
 
@@ -68,7 +68,7 @@ add-done : tie.Need-add-done Inv-loop μ-loop
 add-done c = search needs
 
 keep-word-requires : tie.Need-keep-word-requires Inv-loop μ-loop
-keep-word-requires c κs = 
+keep-word-requires c κs =
     let loop = c .before .before .before .before .before .before .before .before .before .before .before in
     omega (arith, c .before .before .before .before .before .before .before .round .kept .1 .1 .1 .1 .1 .1 .1 .1 .0, loop .loop .inv .2, loop .loop .inv .3, loop .before .before .before .before .before .before .before .before .before .pre .1 .1 .1 .0)
 
@@ -76,11 +76,10 @@ loop-less : tie.Need-loop-less Inv-loop μ-loop
 loop-less c = search needs
 
 loop-again : tie.Need-loop-again Inv-loop μ-loop
-loop-again c = 
+loop-again c =
     let round = c .before .before .before .before .before .before in
     let loop = round .before .before .before .before in
-    let kept = kept-at (c .before) in
-    (
+    let kept = kept-at (c .before) in (
       omega arith,
       round .round .kept .1 .1 .1 .1 .1 .1 .1 .0 ∙ loop .loop .inv .1,
       round .round .kept .1 .1 .1 .1 .1 .1 .1 .1 .0 ∙ loop .loop .inv .2,
@@ -98,7 +97,7 @@ same-length-3 : tie.Need-same-length-3 Inv-loop μ-loop
 same-length-3 c = search needs
 
 returns : tie.Need-returns Inv-loop μ-loop
-returns c = 
+returns c =
     let e : c .before .before .before .before .before .before .before .before .before .before .args .limit - c .before .loop .done ≡ 0 = omega arith in
     rounds-out _ _ _ _ _ _ (rw e at (c .before .loop .inv .4))
 
@@ -112,7 +111,7 @@ same-length-6 : tie.Need-same-length-6 Inv-loop μ-loop
 same-length-6 c = kept-at (c .before) .0
 
 returns-2 : tie.Need-returns-2 Inv-loop μ-loop
-returns-2 c = 
+returns-2 c =
     round-out _ _ _ _ _ _ _ _ _ _ _ _ (running (c .before)) (c .before .before .before .before .before .before .round .ensures) (kept-at (c .before) .1) (c .if2 .taken)
 
 pub rounds-spec : {M : Type 1} → statement M
