@@ -199,11 +199,11 @@ fn least_two(part: &[f32]) -> Minima
 fn min_answer(scale: f32, m: Minima, i: usize, v: f32) -> f32
     ensures { λ r. ⌜ r ≡ minAnswer scale m i v ⌝ }
 {
-    let signed = scale * turn_sign(v, m.sign);
+    let sign = turn_sign(v, m.sign);
     if i == m.place {
-        signed * m.second
+        scale * sign * m.second
     } else {
-        signed * m.least
+        scale * sign * m.least
     }
 }
 
