@@ -1,12 +1,10 @@
 // The f32 arithmetic of a decoding round: the check step and the variable node, each operation rounded once in a fixed order.
 ghost use mathlib.Core.Path.{_≡_};
 ghost use mathlib.Core.List.{map};
-ghost use Prim.Native.Nat.{_<_};
 ghost use lib.ListN.{length};
-ghost use lib.Ieee.{neg};
-ghost use Rattle.softmath.specs.Single.{_⊘_, _⊗_, two32, foldFrom, product, sumFrom};
+ghost use Rattle.softmath.specs.Single.{_⊘_, _⊗_, foldFrom, product, sumFrom};
 ghost use Rattle.softmath.specs.Functions.{tanh, atanh, clampUnit, magnitudeOf, decide};
-ghost use Rattle.softmath.specs.CheckNode.{atEach, turned, seen, minimaOf, minAnswer, minSum, before, middle, after};
+ghost use Rattle.softmath.specs.CheckNode.{atEach, turned, seen, minimaOf, minAnswer, minSum, clampedAnswer, negatedAnswer, before, middle, after};
 ghost use Rattle.softmath.specs.VariableNode.{decisionSum, answersAt, EdgesWithin, lessOwn, othersSummed, bitTurned};
 
 // How a check answers: the three rules of the staircase codes, and (174,91)'s own.
@@ -240,7 +238,7 @@ pub fn at_check(rule: DecodeRule, part: &mut [f32])
 
 // 2.0 times the atanh of each product, clamped.
 fn clamped_answers(part: &mut [f32])
-    ensures { λ _. ⌜ now (part .exit) ≡ map (λ p. two32 ⊗ atanh (clampUnit p)) (now (part .entry)) ⌝ }
+    ensures { λ _. ⌜ now (part .exit) ≡ map clampedAnswer (now (part .entry)) ⌝ }
 {
     let mut i = 0;
     while i < part.len() {
@@ -251,7 +249,7 @@ fn clamped_answers(part: &mut [f32])
 
 // -2.0 times the atanh of each product.
 fn negated_answers(part: &mut [f32])
-    ensures { λ _. ⌜ now (part .exit) ≡ map (λ p. neg two32 ⊗ atanh p) (now (part .entry)) ⌝ }
+    ensures { λ _. ⌜ now (part .exit) ≡ map negatedAnswer (now (part .entry)) ⌝ }
 {
     let mut i = 0;
     while i < part.len() {
