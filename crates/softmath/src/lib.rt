@@ -44,6 +44,7 @@ pub fn fast_tanh(x: f32) -> f32
     }
 }
 
+// The atanh by its fraction alone: past its pole near 1.1035 the sign turns, as in the Rust.
 pub fn fast_atanh(x: f32) -> f32
     ensures { λ r. ⌜ r ≡ atanh x ⌝ }
 {
@@ -53,6 +54,7 @@ pub fn fast_atanh(x: f32) -> f32
     a / b
 }
 
+// To -1.0 and 1.0; a NaN stays.
 pub fn clamp_unit(x: f32) -> f32
     ensures { λ r. ⌜ r ≡ clampUnit x ⌝ }
 {
@@ -63,6 +65,7 @@ pub fn clamp_unit(x: f32) -> f32
     }
 }
 
+// The value without its sign: 0.0 for both zeros, a NaN for a NaN.
 pub fn magnitude(x: f32) -> f32
     ensures { λ r. ⌜ r ≡ magnitudeOf x ⌝ }
 {
@@ -73,6 +76,7 @@ pub fn magnitude(x: f32) -> f32
     }
 }
 
+// The bit that a sum decides: 1 at or below zero, 0 for a NaN.
 pub fn decide(x: f32) -> u8
     ensures { λ r. ⌜ r ≡ decide x ⌝ }
 {
@@ -175,6 +179,7 @@ fn note(m: Minima, i: usize, v: f32) -> Minima
     }
 }
 
+// The two least magnitudes of a check's messages, and the sign of their product.
 fn least_two(part: &[f32]) -> Minima
     ensures { λ r. ⌜ r ≡ minimaOf (now (part .entry)) ⌝ }
 {
@@ -205,6 +210,7 @@ fn min_answer(scale: f32, m: Minima, i: usize, v: f32) -> f32
     }
 }
 
+// Min-sum in place: the answers to a check's messages.
 fn min_sum(scale: f32, part: &mut [f32])
     ensures { λ _. ⌜ now (part .exit) ≡ minSum scale (now (part .entry)) ⌝ }
 {

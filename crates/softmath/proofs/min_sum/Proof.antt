@@ -7,7 +7,7 @@ use native.Mathlib.Omega.{arith}
 use lib.ListN.{length, take, drop, length-set}
 use borrow.Author.Needs.{needs}
 use Rattle.softmath.proofs.MinSum.{answers-more, answers-done}
-use Rattle.softmath.specs.CheckNode.{minSum, minAnswers, minimaOf}
+use Rattle.softmath.specs.CheckNode.{minSum, minAnswers}
 use Rattle.softmath.proofs.min_sum.Statement.{statement}
 use Rattle.softmath.proofs.min_sum.Tie as tie
 
