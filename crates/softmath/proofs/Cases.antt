@@ -1,5 +1,6 @@
 -- Document 01's worked cases of the float arithmetic: by computation. Assumes nothing.
 use mathlib.Core.Path.{_≡_, refl}
+use mathlib.Core.Bool.{false}
 use mathlib.Core.List.{[], _∷_}
 use Prim.Native.Nat.{ℕ}
 use lib.Ieee.{Float, nan, binary32, round, add, mul, div, neg, lt, ofBits}
