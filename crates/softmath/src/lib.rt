@@ -22,11 +22,11 @@ pub enum SumKind {
 }
 
 // What min-sum keeps of a check's messages: the two least magnitudes, where the least is first met, the sign of the product.
-pub struct Minima {
-    pub least: f32,
-    pub second: f32,
-    pub place: usize,
-    pub sign: f32,
+struct Minima {
+    least: f32,
+    second: f32,
+    place: usize,
+    sign: f32,
 }
 
 // The fraction is worked out before the two tests choose, so that a pass over many floats works on several at a time.
