@@ -1,9 +1,11 @@
 -- Document 01's worked cases of the float arithmetic: by computation. Assumes nothing.
 use mathlib.Core.Path.{_≡_, refl}
-use mathlib.Core.List.{List, [], _∷_}
-use lib.Ieee.{Float, nan, binary32, add, sub, mul, neg, lt, ofBits}
+use mathlib.Core.Bool.{false}
+use mathlib.Core.List.{[], _∷_}
+use Prim.Native.Nat.{ℕ}
+use lib.Ieee.{Float, nan, binary32, round, add, mul, div, neg, lt, ofBits}
 use Rattle.softmath.specs.Single.{zero32, one32, two32, foldFrom}
-use Rattle.softmath.specs.Functions.{magnitudeOf}
+use Rattle.softmath.specs.Functions.{tanh, atanh, magnitudeOf}
 use Rattle.softmath.specs.CheckNode.{checkStep, minSum, minimaOf, minimaFrom, seen, minAnswer, minAnswers}
 use Rattle.softmath.specs.VariableNode.{decisionSum, messageTotal}
 use Rattle.softmath.specs.declared.DecodeRule.the-variants.{MinSum}
@@ -23,6 +25,22 @@ next32 = ofBits binary32 0x4b800001
 pub min-sum-case : checkStep MinSum (two32 ∷ neg three32 ∷ two32 ∷ nan ∷ []) ≡ neg two32 ∷ two32 ∷ neg two32 ∷ neg two32 ∷ []
 unfolding checkStep minSum minimaOf minimaFrom seen minAnswer minAnswers magnitudeOf ofBits neg lt mul
 min-sum-case = refl
+
+-- "`fast_tanh` of 1.0 is 1051/1380 rounded; of 5.0, 1.0. `fast_atanh` of 1.0 is 274/120 rounded."
+abbrev rounded : ℕ → ℕ → Float
+rounded num den = round binary32 false num den
+
+pub tanh-one-case : tanh one32 ≡ rounded 1051 1380
+unfolding tanh lt neg add mul div ofBits
+tanh-one-case = refl
+
+pub tanh-five-case : tanh (ofBits binary32 0x40a00000) ≡ one32
+unfolding tanh lt neg ofBits
+tanh-five-case = refl
+
+pub atanh-one-case : atanh one32 ≡ rounded 274 120
+unfolding atanh neg add mul div ofBits
+atanh-one-case = refl
 
 -- "with 16,777,216 and answers 1, 1, 0 the decision sum is 16,777,216, the message total 16,777,218"
 pub decision-sum-case : decisionSum large32 (one32 ∷ one32 ∷ zero32 ∷ []) ≡ large32

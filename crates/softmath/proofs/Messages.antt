@@ -1,18 +1,24 @@
 -- A bit's new messages, put at its edges, are what the loop over its edges leaves: by induction over distinct edges. Assumes nothing.
-use mathlib.Core.Path.{_≡_, refl, sym, ap, _∙_}
+use mathlib.Core.Path.{_≡_, refl, sym, _∙_}
 use mathlib.Core.Logic.{_≢_}
-use mathlib.Core.List.{List, [], _∷_, _++_, map}
-use Prim.Native.Nat.{ℕ, zero, suc, _<_}
+use mathlib.Core.List.{List, [], _∷_, map}
+use mathlib.Core.Bool.{Bool, true, false, cond}
+use Prim.Native.Nat.{ℕ, zero, suc, _≤_, _<_}
 use native.Mathlib.Omega.{arith}
 use lib.ListN.{length, getD, set, length-set, length-map}
 use lib.Seq.{getD-set-same, getD-set-other}
-use lib.Ieee.{Float, nan}
-use Rattle.softmath.specs.Single.{_⊕_, _⊖_, foldFrom, sumFrom}
+use lib.Ieee.{Float, nan, le}
+use Rattle.softmath.specs.Single.{_⊕_, _⊖_, zero32, foldFrom, sumFrom}
+use Rattle.softmath.specs.Functions.{decide}
 use Rattle.softmath.specs.VariableNode.{messageTotal, newMessages, answersAt, EdgesWithin, Distinct, none, more, putAt, lessOwn, othersSummed, bitTurned}
 use Rattle.softmath.specs.declared.SumKind.{SumKind}
 use Rattle.softmath.specs.declared.SumKind.the-variants.{Total, Others}
 use Rattle.softmath.proofs.LeaveOneOut.{carriedFrom, prefix-shared}
 use Rattle.softmath.proofs.Steps.{each-length}
+
+one-or-none : (b : Bool) → cond b 1 0 ≤ 1
+one-or-none true = omega arith
+one-or-none false = omega arith
 
 -- e is none of the edges
 abbrev pub NoneOf : ℕ → List ℕ → Type 0
@@ -102,3 +108,9 @@ pub turned-length : (kind : SumKind) (llr : Float) (es : List ℕ) (w : List Flo
 unfolding bitTurned
 turned-length Total llr es w = less-length _ es w
 turned-length Others llr es w = others-length llr es w
+
+-- ---- a decision is a bit
+
+pub decide-bit : (x : Float) → decide x ≤ 1
+unfolding decide
+decide-bit x = one-or-none (le x zero32)

@@ -1,10 +1,10 @@
 -- A check step is the same taken in three parts, and keeps the number of messages at any degree: by induction over the messages. Assumes nothing.
-use mathlib.Core.Path.{_≡_, refl, sym, ap, _∙_}
-use mathlib.Core.Bool.{Bool, true, false, not, cond}
+use mathlib.Core.Path.{_≡_, refl, ap, _∙_}
+use mathlib.Core.Bool.{Bool, true, false, not}
 use mathlib.Core.List.{List, [], _∷_, _++_, map}
 use Prim.Native.Nat.{ℕ, suc}
 use lib.ListN.{length, length-map}
-use lib.Ieee.{Float, nan, inf, fin, binary32, unlike, div, neg, ofBits}
+use lib.Ieee.{Float, nan, inf, fin, binary32, unlike, div, neg}
 use Rattle.softmath.specs.Single.{_⊘_, two32, product}
 use Rattle.softmath.specs.Functions.{tanh}
 use Rattle.softmath.specs.CheckNode.{overOthers, atEach, minAnswers, minSum, minimaOf, halfTanh, negatedHalfTanh, checkStep, before, middle, after}

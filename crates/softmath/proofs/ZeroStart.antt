@@ -1,19 +1,19 @@
 -- Whether the sum of the answers starts from 0.0 or from -0.0 changes no new message: the two sums differ only where every answer is -0.0, and taking off the own answer, which is then -0.0 too, makes both totals one.
 -- Assumes nothing.
-use mathlib.Core.Path.{_≡_, refl, sym, ap, _∙_}
+use mathlib.Core.Path.{_≡_, refl, sym, _∙_}
 use mathlib.Core.Logic.{_⊎_, inl, inr, ⊎-elim}
-use mathlib.Core.Bool.{Bool, true, false, _&&_, cond}
+use mathlib.Core.Bool.{Bool, true, false, _&&_}
 use mathlib.Core.List.{List, [], _∷_, map, List·Memᴰ, List·Memᴰ·head, List·Memᴰ·tail}
-use Prim.Native.Nat.{ℕ, zero, suc, _+_, _-_, _*_, _/_, _%_, _^_, _<_, compare, Ordering, Ordering·lt, Ordering·eq, Ordering·gt}
-use native.Mathlib.Nat.{zero-div, zero-mod, zero-add, add-zero, sub-zero, zero-mul, mul-zero, mul-pos}
+use Prim.Native.Nat.{ℕ, zero, suc, _*_, _<_, compare, Ordering, Ordering·lt, Ordering·eq, Ordering·gt}
+use native.Mathlib.Nat.{zero-div, zero-mod, zero-add, add-zero, sub-zero, zero-mul, mul-pos}
 use native.Mathlib.Omega.{arith}
-use lib.Dec.{ltb, leb·zero, isLe}
+use lib.Dec.{leb·zero, isLe}
 use lib.IntN.{ℤ, pos}
 use lib.Ieee.{Float, nan, inf, fin, binary32, up, down, nearest, units, odd, size, span, climb, round, sum, add, sub, neg, ofBits}
 use lib.Ieee.Fits.{up-pos}
 use borrow.Author.Tests.{lt-ltb, le-ltb}
 use Rattle.softmath.specs.Single.{_⊕_, _⊖_, zero32, foldFrom, sumFrom}
-use Rattle.softmath.specs.VariableNode.{messageTotal, newMessages}
+use Rattle.softmath.specs.VariableNode.{newMessages}
 use Rattle.softmath.specs.declared.SumKind.the-variants.{Total}
 
 -- -0.0

@@ -1,6 +1,6 @@
 -- The check step: from the messages of one check, in row order, the answer to each of its positions.
 use Prim.Native.Nat.{ℕ, suc}
-use mathlib.Core.Bool.{Bool, true, false, cond}
+use mathlib.Core.Bool.{false, cond}
 use mathlib.Core.List.{List, [], _∷_, _++_, map}
 use lib.Dec.{eqb}
 use lib.Ieee.{Float, inf, neg, lt}
@@ -70,13 +70,20 @@ halfTanh m = tanh (m ⊘ two32)
 abbrev pub negatedHalfTanh : Float → Float
 negatedHalfTanh m = tanh (neg m ⊘ two32)
 
+-- 2.0 times the atanh of the clamped product, and -2.0 times that of the product as it is
+abbrev pub clampedAnswer : Float → Float
+clampedAnswer p = two32 ⊗ atanh (clampUnit p)
+
+abbrev pub negatedAnswer : Float → Float
+negatedAnswer p = neg two32 ⊗ atanh p
+
 -- "products from 1.0 of the other `fast_tanh` of message/2.0 in row order, clamped to -1.0 to 1.0 (NaN remains), then 2.0 times `fast_atanh`"
 abbrev pub sumProductAnswer : List Float → Float
-sumProductAnswer ms = two32 ⊗ atanh (clampUnit (product (map halfTanh ms)))
+sumProductAnswer ms = clampedAnswer (product (map halfTanh ms))
 
 -- "multiply from 1.0, in `NM` order, the `fast_tanh` of minus the other messages over 2.0; the answer is -2.0 times `fast_atanh` of that product, unclamped"
 abbrev pub ft8Answer : List Float → Float
-ft8Answer ms = neg two32 ⊗ atanh (product (map negatedHalfTanh ms))
+ft8Answer ms = negatedAnswer (product (map negatedHalfTanh ms))
 
 -- the answers of one check to its messages, by the decode rule
 unfoldable pub checkStep : DecodeRule → List Float → List Float
@@ -100,7 +107,7 @@ middle (ScaledMinSum scale) ts = minSum scale ts
 middle Ft8 ts = atEach product ts
 
 unfoldable pub after : DecodeRule → Float → Float
-after SumProduct p = two32 ⊗ atanh (clampUnit p)
+after SumProduct p = clampedAnswer p
 after MinSum p = p
 after (ScaledMinSum scale) p = p
-after Ft8 p = neg two32 ⊗ atanh p
+after Ft8 p = negatedAnswer p

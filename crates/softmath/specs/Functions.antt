@@ -1,6 +1,6 @@
 -- The functions of one f32 that the check and variable nodes use.
 use Prim.Native.Nat.{ℕ}
-use mathlib.Core.Bool.{Bool, true, false, cond}
+use mathlib.Core.Bool.{false, cond}
 use lib.Ieee.{Float, nan, inf, fin, binary32, neg, lt, le, ofBits}
 use Rattle.softmath.specs.Single.{_⊕_, _⊗_, _⊘_, zero32, one32}
 

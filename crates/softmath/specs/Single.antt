@@ -1,7 +1,7 @@
 -- f32 numbers: one rounded operation for each operation of the code, and the constants that document 01 names.
 -- (Document 01, "Rounds": "each float operation rounds once, in the order given here".)
 use mathlib.Core.List.{List, [], _∷_}
-use lib.Ieee.{Float, binary32, add, sub, mul, div, neg, ofBits}
+use lib.Ieee.{Float, binary32, add, sub, mul, div, ofBits}
 
 infixl 40 _⊕_
 abbrev pub _⊕_ : Float → Float → Float

@@ -1,7 +1,7 @@
 -- The variable node: from a bit's channel value and the answers that it hears, checks ascending, its decision and its new messages.
 use Prim.Native.Nat.{ℕ, _<_}
 use mathlib.Core.Logic.{_≢_}
-use mathlib.Core.List.{List, [], _∷_, _++_, map}
+use mathlib.Core.List.{List, [], _∷_, map}
 use lib.ListN.{length, getD, set}
 use lib.Ieee.{Float, nan}
 use Rattle.softmath.specs.Single.{_⊕_, _⊖_, zero32, sumFrom}

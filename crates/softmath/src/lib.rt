@@ -1,12 +1,10 @@
 // The f32 arithmetic of a decoding round: the check step and the variable node, each operation rounded once in a fixed order.
 ghost use mathlib.Core.Path.{_≡_};
 ghost use mathlib.Core.List.{map};
-ghost use Prim.Native.Nat.{_<_};
 ghost use lib.ListN.{length};
-ghost use lib.Ieee.{neg};
-ghost use Rattle.softmath.specs.Single.{_⊘_, _⊗_, two32, foldFrom, product, sumFrom};
+ghost use Rattle.softmath.specs.Single.{_⊘_, _⊗_, foldFrom, product, sumFrom};
 ghost use Rattle.softmath.specs.Functions.{tanh, atanh, clampUnit, magnitudeOf, decide};
-ghost use Rattle.softmath.specs.CheckNode.{atEach, turned, seen, minimaOf, minAnswer, minSum, before, middle, after};
+ghost use Rattle.softmath.specs.CheckNode.{atEach, turned, seen, minimaOf, minAnswer, minSum, clampedAnswer, negatedAnswer, before, middle, after};
 ghost use Rattle.softmath.specs.VariableNode.{decisionSum, answersAt, EdgesWithin, lessOwn, othersSummed, bitTurned};
 
 // How a check answers: the three rules of the staircase codes, and (174,91)'s own.
@@ -24,11 +22,11 @@ pub enum SumKind {
 }
 
 // What min-sum keeps of a check's messages: the two least magnitudes, where the least is first met, the sign of the product.
-pub struct Minima {
-    pub least: f32,
-    pub second: f32,
-    pub place: usize,
-    pub sign: f32,
+struct Minima {
+    least: f32,
+    second: f32,
+    place: usize,
+    sign: f32,
 }
 
 // The fraction is worked out before the two tests choose, so that a pass over many floats works on several at a time.
@@ -46,6 +44,7 @@ pub fn fast_tanh(x: f32) -> f32
     }
 }
 
+// The atanh by its fraction alone: past its pole near 1.1035 the sign turns, as in the Rust.
 pub fn fast_atanh(x: f32) -> f32
     ensures { λ r. ⌜ r ≡ atanh x ⌝ }
 {
@@ -55,6 +54,7 @@ pub fn fast_atanh(x: f32) -> f32
     a / b
 }
 
+// To -1.0 and 1.0; a NaN stays.
 pub fn clamp_unit(x: f32) -> f32
     ensures { λ r. ⌜ r ≡ clampUnit x ⌝ }
 {
@@ -65,6 +65,7 @@ pub fn clamp_unit(x: f32) -> f32
     }
 }
 
+// The value without its sign: 0.0 for both zeros, a NaN for a NaN.
 pub fn magnitude(x: f32) -> f32
     ensures { λ r. ⌜ r ≡ magnitudeOf x ⌝ }
 {
@@ -75,6 +76,7 @@ pub fn magnitude(x: f32) -> f32
     }
 }
 
+// The bit that a sum decides: 1 at or below zero, 0 for a NaN.
 pub fn decide(x: f32) -> u8
     ensures { λ r. ⌜ r ≡ decide x ⌝ }
 {
@@ -177,6 +179,7 @@ fn note(m: Minima, i: usize, v: f32) -> Minima
     }
 }
 
+// The two least magnitudes of a check's messages, and the sign of their product.
 fn least_two(part: &[f32]) -> Minima
     ensures { λ r. ⌜ r ≡ minimaOf (now (part .entry)) ⌝ }
 {
@@ -199,14 +202,15 @@ fn least_two(part: &[f32]) -> Minima
 fn min_answer(scale: f32, m: Minima, i: usize, v: f32) -> f32
     ensures { λ r. ⌜ r ≡ minAnswer scale m i v ⌝ }
 {
-    let signed = scale * turn_sign(v, m.sign);
+    let sign = turn_sign(v, m.sign);
     if i == m.place {
-        signed * m.second
+        scale * sign * m.second
     } else {
-        signed * m.least
+        scale * sign * m.least
     }
 }
 
+// Min-sum in place: the answers to a check's messages.
 fn min_sum(scale: f32, part: &mut [f32])
     ensures { λ _. ⌜ now (part .exit) ≡ minSum scale (now (part .entry)) ⌝ }
 {
@@ -240,7 +244,7 @@ pub fn at_check(rule: DecodeRule, part: &mut [f32])
 
 // 2.0 times the atanh of each product, clamped.
 fn clamped_answers(part: &mut [f32])
-    ensures { λ _. ⌜ now (part .exit) ≡ map (λ p. two32 ⊗ atanh (clampUnit p)) (now (part .entry)) ⌝ }
+    ensures { λ _. ⌜ now (part .exit) ≡ map clampedAnswer (now (part .entry)) ⌝ }
 {
     let mut i = 0;
     while i < part.len() {
@@ -251,7 +255,7 @@ fn clamped_answers(part: &mut [f32])
 
 // -2.0 times the atanh of each product.
 fn negated_answers(part: &mut [f32])
-    ensures { λ _. ⌜ now (part .exit) ≡ map (λ p. neg two32 ⊗ atanh p) (now (part .entry)) ⌝ }
+    ensures { λ _. ⌜ now (part .exit) ≡ map negatedAnswer (now (part .entry)) ⌝ }
 {
     let mut i = 0;
     while i < part.len() {

@@ -43,42 +43,66 @@ fn float_of(bits: u32) -> f32 {
     }
 }
 
-fn word(record: &[u8; 52], k: usize) -> u32
+fn wide(byte: u8) -> usize {
+    byte as usize
+}
+
+fn pair(low: u8, high: u8) -> u32
+    ensures { λ r. ⌜ r < 65536 ⌝ }
+{
+    low as u32 + 256 * (high as u32)
+}
+
+fn word(bytes: &[u8; 52], k: usize) -> u32
     requires { ⌜ k < 13 ⌝ }
 {
     let at = 4 * k;
-    let low = record[at] as u32 + 256 * (record[at + 1] as u32);
-    let high = record[at + 2] as u32 + 256 * (record[at + 3] as u32);
+    let low = pair(bytes[at], bytes[at + 1]);
+    let high = pair(bytes[at + 2], bytes[at + 3]);
     low + 65536 * high
 }
 
-fn load(record: &[u8; 52], floats: &mut [f32; 11]) {
+fn load(bytes: &[u8; 52]) -> [f32; 11]
+    ensures { λ r. ⌜ 11 ≡ length r ⌝ }
+{
+    let mut floats = [0.0f32; 11];
     let mut i = 0;
     while i < FLOATS {
-        floats[i] = float_of(word(record, i + 2));
+        floats[i] = float_of(word(bytes, i + 2));
         i += 1;
     }
+    floats
 }
 
-fn functions(xs: &[f32]) {
+fn functions(floats: &[f32], n: usize) {
     let mut i = 0;
-    while i < xs.len() {
-        print_float(softmath::fast_tanh(xs[i]));
-        print_float(softmath::fast_atanh(xs[i]));
+    while i < n {
+        if i < floats.len() {
+            print_float(softmath::fast_tanh(floats[i]));
+            print_float(softmath::fast_atanh(floats[i]));
+        }
         i += 1;
     }
 }
 
-fn check(rule: DecodeRule, part: &mut [f32]) {
+fn check_step(rule: DecodeRule, part: &mut [f32]) {
     softmath::before_checks(rule, part);
     softmath::at_check(rule, part);
     softmath::after_checks(rule, part);
     print_floats(part);
 }
 
+// The check step on the first n floats.
+fn check(rule: DecodeRule, floats: &mut [f32], n: usize) {
+    if n <= floats.len() {
+        check_step(rule, &mut floats[..n]);
+    }
+}
+
 // The decision sum, the decision as a word, and the work area with the new messages in it.
-fn bit(kind: SumKind, llr: f32, floats: &mut [f32; 11], n: usize)
+fn bit(kind: SumKind, llr: f32, floats: &mut [f32], n: usize)
     requires { ⌜ n ≤ 11 ⌝ }
+    requires { ⌜ 11 ≡ length (now floats) ⌝ }
 {
     let edges = EDGES;
     print_float(softmath::sum_at(llr, floats, &edges[..n]));
@@ -88,21 +112,20 @@ fn bit(kind: SumKind, llr: f32, floats: &mut [f32; 11], n: usize)
     print_floats(floats);
 }
 
-fn replay(record: &[u8; 52]) {
-    let mut floats = [0.0f32; 11];
-    load(record, &mut floats);
-    let n = record[1] as usize;
+fn replay(bytes: &[u8; 52]) {
+    let mut floats = load(bytes);
+    let n = wide(bytes[1]);
     if n > FLOATS {
         return;
     }
-    let parameter = float_of(word(record, 1));
-    let what = record[0];
+    let parameter = float_of(word(bytes, 1));
+    let what = bytes[0];
     match what {
-        0 => functions(&floats[..n]),
-        1 => check(DecodeRule::SumProduct, &mut floats[..n]),
-        2 => check(DecodeRule::MinSum, &mut floats[..n]),
-        3 => check(DecodeRule::ScaledMinSum(parameter), &mut floats[..n]),
-        4 => check(DecodeRule::Ft8, &mut floats[..n]),
+        0 => functions(&floats, n),
+        1 => check(DecodeRule::SumProduct, &mut floats, n),
+        2 => check(DecodeRule::MinSum, &mut floats, n),
+        3 => check(DecodeRule::ScaledMinSum(parameter), &mut floats, n),
+        4 => check(DecodeRule::Ft8, &mut floats, n),
         5 => bit(SumKind::Total, parameter, &mut floats, n),
         6 => bit(SumKind::Others, parameter, &mut floats, n),
         _ => {}
@@ -112,11 +135,11 @@ fn replay(record: &[u8; 52]) {
 fn main() {
     let mut i = 0;
     while i < MOST_RECORDS {
-        let mut record = [0u8; 52];
-        if io::read_full(STDIN_FILENO, &mut record) < 52 {
+        let mut bytes = [0u8; 52];
+        if io::read_full(STDIN_FILENO, &mut bytes) < 52 {
             return;
         }
-        replay(&record);
+        replay(&bytes);
         i += 1;
     }
 }

@@ -38,7 +38,9 @@ same-length-2 c = search needs
 
 returns-2 : tie.Need-returns-2
 unfolding neg ofBits
-returns-2 c = rw (c .before .before .before .before .enum-told2 .given .1) (c .before .before .tanh-over2 .ensures ∙ before-negated (c .before .before .before .before .before .before .before .args .part .now))
+returns-2 c =
+    let start = c .before .before .before .before .before .before .before in
+    rw (c .before .before .before .before .enum-told2 .given .1) (c .before .before .tanh-over2 .ensures ∙ before-negated (start .args .part .now))
 
 returns-3 : tie.Need-returns-3
 unfolding before

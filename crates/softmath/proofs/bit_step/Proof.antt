@@ -34,14 +34,22 @@ same-length c = search needs
 
 returns : tie.Need-returns
 unfolding bitTurned
-returns c = (c .before .before .before .before .before .before .before .before .decide .ensures ∙ ap decide (c .before .before .before .before .before .before .before .before .before .sum-at .ensures), rw (c .before .before .before .before .before .before .enum-told .given .1) (c .before .before .less-own .ensures ∙ ap (λ s. lessOwn (c .before .before .before .before .before .before .before .before .before .before .before .before .before .args .llr ⊕ s) (c .before .before .before .before .before .before .before .before .before .before .before .before .before .args .edges .now) (c .before .before .before .before .before .before .before .before .before .before .before .before .before .args .work .now)) (c .before .before .before .before .sum-at2 .ensures)))
+returns c =
+    let start = c .before .before .before .before .before .before .before .before .before .before .before .before .before in
+    let total = ap (λ s. lessOwn (start .args .llr ⊕ s) (start .args .edges .now) (start .args .work .now)) (c .before .before .before .before .sum-at2 .ensures) in (
+      c .before .before .before .before .before .before .before .before .decide .ensures ∙ ap decide (c .before .before .before .before .before .before .before .before .before .sum-at .ensures),
+      rw (c .before .before .before .before .before .before .enum-told .given .1) (c .before .before .less-own .ensures ∙ total),
+    )
 
 same-length-2 : tie.Need-same-length-2
 same-length-2 c = search needs
 
 returns-2 : tie.Need-returns-2
 unfolding bitTurned
-returns-2 c = (c .before .before .before .before .before .before .decide .ensures ∙ ap decide (c .before .before .before .before .before .before .before .sum-at .ensures), rw (c .before .before .before .before .enum-told2 .given .1) (c .before .before .sum-others .ensures))
+returns-2 c = (
+  c .before .before .before .before .before .before .decide .ensures ∙ ap decide (c .before .before .before .before .before .before .before .sum-at .ensures),
+  rw (c .before .before .before .before .enum-told2 .given .1) (c .before .before .sum-others .ensures),
+)
 
 pub bit-step-spec : {M : Type 1} → statement M
 bit-step-spec =

@@ -7,14 +7,13 @@ use native.Mathlib.Omega.{arith}
 use lib.Ieee.{nan}
 use lib.ListN.{length, take, drop, length-set}
 use borrow.Author.Needs.{needs}
+use Rattle.softmath.specs.CheckNode.{clampedAnswer}
 use Rattle.softmath.proofs.InPlace.{each-more, each-done}
-use Rattle.softmath.specs.Functions.{atanh, clampUnit}
-use Rattle.softmath.specs.Single.{_⊗_, two32}
 use Rattle.softmath.proofs.clamped_answers.Statement.{statement}
 use Rattle.softmath.proofs.clamped_answers.Tie as tie
 
 abbrev Inv-loop : tie.InvT-loop
-Inv-loop part₀ i₀ part i = (i ≤ length part) × (length part ≡ length part₀) × (take i part ++ map (λ p. two32 ⊗ atanh (clampUnit p)) (drop i part) ≡ map (λ p. two32 ⊗ atanh (clampUnit p)) part₀)
+Inv-loop part₀ i₀ part i = (i ≤ length part) × (length part ≡ length part₀) × (take i part ++ map clampedAnswer (drop i part) ≡ map clampedAnswer part₀)
 
 abbrev μ-loop : tie.MeasureT-loop
 μ-loop part₀ i₀ part i = length part₀ - i
@@ -47,13 +46,18 @@ loop-less : tie.Need-loop-less Inv-loop μ-loop
 loop-less c = search needs
 
 loop-again : tie.Need-loop-again Inv-loop μ-loop
-loop-again c = (simp length-set (omega arith), simp length-set (omega arith), each-more (λ p. two32 ⊗ atanh (clampUnit p)) nan _ _ _ _ (c .before .before .before .loop-test .taken) (simp (c .fast-atanh .ensures, c .before .clamp-unit .ensures)) (c .before .before .before .before .loop .inv .2))
+loop-again c =
+    let turn = c .before .before .before in (
+      simp length-set (omega arith),
+      simp length-set (omega arith),
+      each-more clampedAnswer nan _ _ _ _ (turn .loop-test .taken) (simp (c .fast-atanh .ensures, c .before .clamp-unit .ensures)) (turn .before .loop .inv .2),
+    )
 
 same-length : tie.Need-same-length Inv-loop μ-loop
 same-length c = search needs
 
 returns : tie.Need-returns Inv-loop μ-loop
-returns c = each-done (λ p. two32 ⊗ atanh (clampUnit p)) nan _ _ _ (c .loop-test .left) (c .before .loop .inv .2)
+returns c = each-done clampedAnswer nan _ _ _ (c .loop-test .left) (c .before .loop .inv .2)
 
 pub clamped-answers-spec : {M : Type 1} → statement M
 clamped-answers-spec =

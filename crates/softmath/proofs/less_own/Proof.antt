@@ -1,9 +1,9 @@
 -- `softmath::less_own` meets its contract. The invariant: the edges that are left, done to the work area as it is, give the answer.
 -- Assumes nothing.
 use mathlib.Core.Path.{_≡_}
-use Prim.Native.Nat.{_-_, _≤_}
+use Prim.Native.Nat.{_-_, _≤_, _<_}
 use native.Mathlib.Omega.{arith}
-use lib.ListN.{length, drop, length-set, drop-of-length-le}
+use lib.ListN.{length, drop, getD, length-set, drop-of-length-le}
 use borrow.Author.Needs.{needs}
 use Rattle.softmath.proofs.Edges.{less-more}
 use Rattle.softmath.specs.VariableNode.{EdgesWithin, lessOwn}
@@ -15,6 +15,11 @@ Inv-loop total work₀ edges k₀ work k = (k ≤ length edges) × (length work 
 
 abbrev μ-loop : tie.MeasureT-loop
 μ-loop total work₀ edges k₀ work k = length edges - k
+
+-- in a turn: the edge lies within the work area
+within : (c : tie.In-loop Inv-loop μ-loop) → getD (c .before .before .args .edges .now) (c .before .loop .k) 0 < length (c .before .loop .work)
+unfolding EdgesWithin
+within c = omega (arith, c .before .before .pre (c .before .loop .k) (c .loop-test .taken), c .before .loop .inv .1)
 
 loop-holds : tie.Need-loop-holds Inv-loop μ-loop
 loop-holds c = search needs
@@ -32,15 +37,13 @@ mul-work : tie.Need-mul-work Inv-loop μ-loop
 mul-work c = omega (arith, c .shared-slice-known .given (c .before .before .loop .k))
 
 slice-read-work : tie.Need-slice-read-work Inv-loop μ-loop
-unfolding EdgesWithin
-slice-read-work c = omega (arith, c .before .before .before .before .pre (c .before .before .before .loop .k) (c .before .before .loop-test .taken), c .before .before .before .loop .inv .1)
+slice-read-work c = within (c .before .before)
 
 mul-work-2 : tie.Need-mul-work-2 Inv-loop μ-loop
 mul-work-2 c = omega (arith, c .before .shared-slice-known .given (c .before .before .before .loop .k))
 
 slice-write-work : tie.Need-slice-write-work Inv-loop μ-loop
-unfolding EdgesWithin
-slice-write-work c = omega (arith, c .before .before .before .before .pre (c .before .before .before .loop .k) (c .before .before .loop-test .taken), c .before .before .before .loop .inv .1)
+slice-write-work c = within (c .before .before)
 
 add-k : tie.Need-add-k Inv-loop μ-loop
 add-k c = search needs

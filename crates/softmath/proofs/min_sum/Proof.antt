@@ -7,7 +7,7 @@ use native.Mathlib.Omega.{arith}
 use lib.ListN.{length, take, drop, length-set}
 use borrow.Author.Needs.{needs}
 use Rattle.softmath.proofs.MinSum.{answers-more, answers-done}
-use Rattle.softmath.specs.CheckNode.{minSum, minAnswers, minimaOf}
+use Rattle.softmath.specs.CheckNode.{minSum, minAnswers}
 use Rattle.softmath.proofs.min_sum.Statement.{statement}
 use Rattle.softmath.proofs.min_sum.Tie as tie
 
@@ -46,7 +46,12 @@ loop-less : tie.Need-loop-less Inv-loop μ-loop
 loop-less c = search needs
 
 loop-again : tie.Need-loop-again Inv-loop μ-loop
-loop-again c = (simp length-set (omega arith), simp length-set (omega arith), answers-more _ _ _ _ _ _ (c .before .before .loop-test .taken) (c .min-answer .ensures) (c .before .before .before .loop .inv .2))
+loop-again c =
+    let turn = c .before .before in (
+      simp length-set (omega arith),
+      simp length-set (omega arith),
+      answers-more _ _ _ _ _ _ (turn .loop-test .taken) (c .min-answer .ensures) (turn .before .loop .inv .2),
+    )
 
 same-length : tie.Need-same-length Inv-loop μ-loop
 same-length c = search needs

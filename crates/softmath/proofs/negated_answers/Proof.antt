@@ -5,17 +5,15 @@ use mathlib.Core.Path.{_≡_}
 use Prim.Native.Nat.{_-_, _≤_}
 use native.Mathlib.Omega.{arith}
 use lib.Ieee.{nan}
-use lib.Ieee.{neg}
 use lib.ListN.{length, take, drop, length-set}
 use borrow.Author.Needs.{needs}
+use Rattle.softmath.specs.CheckNode.{negatedAnswer}
 use Rattle.softmath.proofs.InPlace.{each-more, each-done}
-use Rattle.softmath.specs.Functions.{atanh}
-use Rattle.softmath.specs.Single.{_⊗_, two32}
 use Rattle.softmath.proofs.negated_answers.Statement.{statement}
 use Rattle.softmath.proofs.negated_answers.Tie as tie
 
 abbrev Inv-loop : tie.InvT-loop
-Inv-loop part₀ i₀ part i = (i ≤ length part) × (length part ≡ length part₀) × (take i part ++ map (λ p. neg two32 ⊗ atanh p) (drop i part) ≡ map (λ p. neg two32 ⊗ atanh p) part₀)
+Inv-loop part₀ i₀ part i = (i ≤ length part) × (length part ≡ length part₀) × (take i part ++ map negatedAnswer (drop i part) ≡ map negatedAnswer part₀)
 
 abbrev μ-loop : tie.MeasureT-loop
 μ-loop part₀ i₀ part i = length part₀ - i
@@ -45,13 +43,18 @@ loop-less : tie.Need-loop-less Inv-loop μ-loop
 loop-less c = search needs
 
 loop-again : tie.Need-loop-again Inv-loop μ-loop
-loop-again c = (simp length-set (omega arith), simp length-set (omega arith), each-more (λ p. neg two32 ⊗ atanh p) nan _ _ _ _ (c .before .before .loop-test .taken) (simp (c .fast-atanh .ensures)) (c .before .before .before .loop .inv .2))
+loop-again c =
+    let turn = c .before .before in (
+      simp length-set (omega arith),
+      simp length-set (omega arith),
+      each-more negatedAnswer nan _ _ _ _ (turn .loop-test .taken) (simp (c .fast-atanh .ensures)) (turn .before .loop .inv .2),
+    )
 
 same-length : tie.Need-same-length Inv-loop μ-loop
 same-length c = search needs
 
 returns : tie.Need-returns Inv-loop μ-loop
-returns c = each-done (λ p. neg two32 ⊗ atanh p) nan _ _ _ (c .loop-test .left) (c .before .loop .inv .2)
+returns c = each-done negatedAnswer nan _ _ _ (c .loop-test .left) (c .before .loop .inv .2)
 
 pub negated-answers-spec : {M : Type 1} → statement M
 negated-answers-spec =

@@ -1,6 +1,6 @@
 -- `softmath::product_from` meets its contract. The invariant: the product of what is left, from the product so far, is the answer.
 -- Assumes nothing.
-use mathlib.Core.Path.{_≡_, sym}
+use mathlib.Core.Path.{_≡_}
 use Prim.Native.Nat.{_-_, _≤_}
 use native.Mathlib.Omega.{arith}
 use lib.ListN.{length, drop, drop-of-length-le}

@@ -59,7 +59,12 @@ loop-less : tie.Need-loop-less Inv-loop μ-loop
 loop-less c = search needs
 
 loop-again : tie.Need-loop-again Inv-loop μ-loop
-loop-again c = (simp length-set (omega arith), simp length-set (omega arith), carried-more _⊗_ _ _ _ _ _ (c .before .before .before .before .loop-test .taken) (c .product-from .ensures) (c .before .before .before .before .before .loop .inv .2))
+loop-again c =
+    let turn = c .before .before .before .before in (
+      simp length-set (omega arith),
+      simp length-set (omega arith),
+      carried-more _⊗_ _ _ _ _ _ (turn .loop-test .taken) (c .product-from .ensures) (turn .before .loop .inv .2),
+    )
 
 same-length : tie.Need-same-length Inv-loop μ-loop
 same-length c = search needs

@@ -1,9 +1,9 @@
 -- `softmath::sum_others` meets its contract. The invariant: the edges that are left, done to the work area as it is from the sum so far, give the answer.
 -- Assumes nothing.
 use mathlib.Core.Path.{_≡_}
-use Prim.Native.Nat.{_-_, _≤_}
+use Prim.Native.Nat.{_-_, _≤_, _<_}
 use native.Mathlib.Omega.{arith}
-use lib.ListN.{length, drop, length-set, drop-of-length-le}
+use lib.ListN.{length, drop, getD, length-set, drop-of-length-le}
 use borrow.Author.Needs.{needs}
 use Rattle.softmath.proofs.Edges.{others-more, within-rest}
 use Rattle.softmath.specs.VariableNode.{EdgesWithin, othersSummed}
@@ -15,6 +15,11 @@ Inv-loop llr work₀ edges carried₀ k₀ work carried k = (k ≤ length edges)
 
 abbrev μ-loop : tie.MeasureT-loop
 μ-loop llr work₀ edges carried₀ k₀ work carried k = length edges - k
+
+-- in a turn: the edge lies within the work area
+within : (c : tie.In-loop Inv-loop μ-loop) → getD (c .before .before .before .before .args .edges .now) (c .before .loop .k) 0 < length (c .before .loop .work)
+unfolding EdgesWithin
+within c = omega (arith, c .before .before .before .before .pre (c .before .loop .k) (c .loop-test .taken), c .before .loop .inv .1)
 
 loop-holds : tie.Need-loop-holds Inv-loop μ-loop
 loop-holds c = search needs
@@ -32,8 +37,7 @@ mul-own : tie.Need-mul-own Inv-loop μ-loop
 mul-own c = omega (arith, c .shared-slice-known2 .given (c .before .before .loop .k))
 
 slice-read-own : tie.Need-slice-read-own Inv-loop μ-loop
-unfolding EdgesWithin
-slice-read-own c = omega (arith, c .before .before .before .before .before .before .pre (c .before .before .before .loop .k) (c .before .before .loop-test .taken), c .before .before .before .loop .inv .1)
+slice-read-own c = within (c .before .before)
 
 add-sum-at : tie.Need-add-sum-at Inv-loop μ-loop
 add-sum-at c = search needs
@@ -57,8 +61,7 @@ mul-work : tie.Need-mul-work Inv-loop μ-loop
 mul-work c = omega (arith, c .before .before .before .before .shared-slice-known2 .given (c .before .before .before .before .before .before .loop .k))
 
 slice-write-work : tie.Need-slice-write-work Inv-loop μ-loop
-unfolding EdgesWithin
-slice-write-work c = omega (arith, c .before .before .before .before .before .before .before .before .before .pre (c .before .before .before .before .before .before .loop .k) (c .before .before .before .before .before .loop-test .taken), c .before .before .before .before .before .before .loop .inv .1)
+slice-write-work c = within (c .before .before .before .before .before)
 
 add-k : tie.Need-add-k Inv-loop μ-loop
 add-k c = search needs
@@ -67,7 +70,12 @@ loop-less : tie.Need-loop-less Inv-loop μ-loop
 loop-less c = search needs
 
 loop-again : tie.Need-loop-again Inv-loop μ-loop
-loop-again c = (omega arith, simp length-set (omega arith), others-more _ _ _ _ _ _ (c .before .before .before .before .before .loop-test .taken) (c .sum-at .ensures) (c .before .before .before .before .before .before .loop .inv .2))
+loop-again c =
+    let turn = c .before .before .before .before .before in (
+      omega arith,
+      simp length-set (omega arith),
+      others-more _ _ _ _ _ _ (turn .loop-test .taken) (c .sum-at .ensures) (turn .before .loop .inv .2),
+    )
 
 same-length : tie.Need-same-length Inv-loop μ-loop
 same-length c = search needs

@@ -44,7 +44,12 @@ loop-less : tie.Need-loop-less Inv-loop μ-loop
 loop-less c = search needs
 
 loop-again : tie.Need-loop-again Inv-loop μ-loop
-loop-again c = (simp length-set (omega arith), simp length-set (omega arith), each-more (λ m. tanh (m ⊘ c .before .before .before .before .before .args .divisor)) nan _ _ _ _ (c .before .before .loop-test .taken) (c .fast-tanh .ensures) (c .before .before .before .loop .inv .2))
+loop-again c =
+    let turn = c .before .before in (
+      simp length-set (omega arith),
+      simp length-set (omega arith),
+      each-more (λ m. tanh (m ⊘ turn .before .before .before .args .divisor)) nan _ _ _ _ (turn .loop-test .taken) (c .fast-tanh .ensures) (turn .before .loop .inv .2),
+    )
 
 same-length : tie.Need-same-length Inv-loop μ-loop
 same-length c = search needs
