@@ -3,15 +3,16 @@ use mathlib.Core.Path.{_≡_, refl, sym, ap, _∙_}
 use mathlib.Core.Bool.{Bool, true, false, cond}
 use mathlib.Core.List.{List, [], _∷_, _++_, append-assoc}
 use Prim.Native.Nat.{ℕ, zero, suc, _+_, _-_, _<_, _≤_}
-use native.Mathlib.Nat.{le-of-suc-le-suc, add-zero, add-suc, suc-add}
+use native.Mathlib.Nat.{le-of-suc-le-suc, add-zero, zero-add, add-suc, suc-add}
 use native.Mathlib.Numerals.{add-one}
 use native.Mathlib.Omega.{arith}
 use lib.Dec.{eqb}
 use lib.ListN.{length, getD, take, drop, length-append, List·getD-append}
 use lib.Seq.{take-at, drop-at, getD-append-add}
 use Rattle.tanner.specs.Checks.{Checks}
-use Rattle.tanner.specs.Flat.{joined, ends, offsets, cut, rowsFrom, rowsOf, Below, FlatChecks}
+use Rattle.tanner.specs.Flat.{joined, ends, offsets, cut, rowsFrom, rowsOf, Below, Within, FlatChecks, places, edgesFrom, bitEdges}
 use Rattle.tanner.proofs.Count.{AllBelow, none, more}
+use Rattle.tanner.proofs.Places.{places-stand}
 
 -- ---- what lies in the arrays is the check list
 
@@ -44,11 +45,15 @@ ends-within [] a k h = omega arith
 ends-within (r ∷ rs) a zero h = simp length-append (omega arith)
 ends-within (r ∷ rs) a (suc k) h = simp length-append (omega (arith, ends-within rs (a + length r) k (omega arith)))
 
+pub offsets-within : (rs : Checks) → Within (offsets rs) (length (joined rs))
+unfolding Within
+offsets-within rs k h = rw add-one (omega (arith, ends-within rs 0 k (le-of-suc-le-suc (rw add-one at h))))
+
 pub flat-checks : (rs : Checks) (n : ℕ) → length rs < 65536 → Below n (joined rs) → FlatChecks (offsets rs) (joined rs) n
 flat-checks rs n few low = record {
   some = omega arith;
   few = omega (arith, ends-length 0 rs);
-  within = λ k h. rw add-one (omega (arith, ends-within rs 0 k (le-of-suc-le-suc (rw add-one at h))));
+  within = offsets-within rs;
   low = low;
 }
 
@@ -66,3 +71,60 @@ pub all-below : (n : ℕ) (rs : Checks) → Below n (joined rs) → AllBelow n r
 unfolding joined
 all-below n [] low = none
 all-below n (r ∷ rs) low = more (below-left n r (joined rs) low) (all-below n rs (below-right n r (joined rs) low))
+
+-- ---- one list of those laid flat
+
+cut-at : (s flat : List ℕ) (a b : ℕ) → b < length s → getD (cut a s flat) b [] ≡ take (getD (a ∷ s) (suc b) 0 - getD (a ∷ s) b 0) (drop (getD (a ∷ s) b 0) flat)
+unfolding cut
+cut-at [] flat a b h = absurd (omega arith)
+cut-at (e ∷ s) flat a zero h = refl
+cut-at (e ∷ s) flat a (suc b) h = cut-at s flat e b (omega arith)
+
+pub row-at : (rs : Checks) (b : ℕ) → b < length rs
+    → take (getD (offsets rs) (b + 1) 0 - getD (offsets rs) b 0) (drop (getD (offsets rs) b 0) (joined rs)) ≡ getD rs b []
+unfolding rowsFrom
+row-at rs b h = rw (add-one, ← cut-at (ends 0 rs) (joined rs) 0 b (omega (arith, ends-length 0 rs))) (ap (λ (l : Checks). getD l b []) (rows-laid rs))
+
+-- ---- each position's edges
+
+edges-length : (p n : ℕ) (flat : List ℕ) → length (edgesFrom p n flat) ≡ n
+unfolding edgesFrom
+edges-length p zero flat = refl
+edges-length p (suc n) flat = ap suc (edges-length (suc p) n flat)
+
+edges-at : (p n b : ℕ) (flat : List ℕ) → b < n → getD (edgesFrom p n flat) b [] ≡ places (p + b) 0 flat
+unfolding edgesFrom
+edges-at p zero b flat h = absurd (omega arith)
+edges-at p (suc n) zero flat h = rw add-zero
+edges-at p (suc n) (suc b) flat h = rw (add-suc, ← suc-add) (edges-at (suc p) n b flat (omega arith))
+
+pub bit-edges-length : (n : ℕ) (rs : Checks) → length (offsets (bitEdges n rs)) ≡ suc n
+bit-edges-length n rs = ap suc (ends-length 0 (bitEdges n rs) ∙ edges-length 0 n (joined rs))
+
+pub bit-edges-at : (n b : ℕ) (rs : Checks) → b < n → let es = bitEdges n rs in
+    take (getD (offsets es) (b + 1) 0 - getD (offsets es) b 0) (drop (getD (offsets es) b 0) (joined es)) ≡ places b 0 (joined rs)
+bit-edges-at n b rs h = row-at (bitEdges n rs) b (omega (arith, edges-length 0 n (joined rs))) ∙ rw zero-add at (edges-at 0 n b (joined rs) h)
+
+-- they are edges
+
+below-none : (n : ℕ) → Below n []
+unfolding Below
+below-none n k h = absurd (omega arith)
+
+below-append : (n : ℕ) (xs ys : List ℕ) → Below n xs → Below n ys → Below n (xs ++ ys)
+unfolding Below
+below-append n [] ys f g k h = g k h
+below-append n (x ∷ xs) ys f g zero h = f 0 (omega arith)
+below-append n (x ∷ xs) ys f g (suc k) h = below-append n xs ys (λ j l. f (suc j) (omega arith)) g k (omega arith)
+
+places-low : (p : ℕ) (flat : List ℕ) → Below (length flat) (places p 0 flat)
+unfolding Below
+places-low p flat k l = let s = places-stand p 0 flat k l in omega (arith, s .place, s .inside)
+
+edges-low : (p n : ℕ) (flat : List ℕ) → Below (length flat) (joined (edgesFrom p n flat))
+unfolding edgesFrom joined
+edges-low p zero flat = below-none (length flat)
+edges-low p (suc n) flat = below-append (length flat) (places p 0 flat) (joined (edgesFrom (suc p) n flat)) (places-low p flat) (edges-low (suc p) n flat)
+
+pub bit-edges-low : (n : ℕ) (rs : Checks) → Below (length (joined rs)) (joined (bitEdges n rs))
+bit-edges-low n rs = edges-low 0 n (joined rs)

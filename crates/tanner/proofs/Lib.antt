@@ -1,3 +1,4 @@
 pub mod Count
 pub mod Flat
 pub mod Steps
+pub mod Places

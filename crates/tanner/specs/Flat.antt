@@ -37,11 +37,15 @@ rowsOf starts flat = rowsFrom starts 0 flat
 unfoldable pub Below : ℕ → List ℕ → Type 0
 Below n ps = (k : ℕ) → k < length ps → getD ps k 0 < n
 
--- the starts rise and stay within the flat list, whose entries are positions below n
+-- the starts rise and stay within n
+unfoldable pub Within : List ℕ → ℕ → Type 0
+Within starts n = (k : ℕ) → k + 1 < length starts → (getD starts k 0 ≤ getD starts (k + 1) 0) × (getD starts (k + 1) 0 ≤ n)
+
+-- the starts, of which there are few, lie within the flat list, whose entries are positions below n
 pub record FlatChecks (starts flat : List ℕ) (n : ℕ) : Type 0 where
   pub some : 0 < length starts
   pub few : length starts ≤ 65536
-  pub within : (k : ℕ) → k + 1 < length starts → (getD starts k 0 ≤ getD starts (k + 1) 0) × (getD starts (k + 1) 0 ≤ length flat)
+  pub within : Within starts (length flat)
   pub low : Below n flat
 
 -- the places at which p stands in a list whose first entry is at place e

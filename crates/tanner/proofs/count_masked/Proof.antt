@@ -5,7 +5,7 @@ use Prim.Native.Nat.{ℕ, _+_, _-_, _≤_, _<_}
 use native.Mathlib.Omega.{arith}
 use lib.ListN.{length, drop, getD}
 use Rattle.tanner.specs.Checks.{countMasked}
-use Rattle.tanner.specs.Flat.{rowsFrom, rowsOf}
+use Rattle.tanner.specs.Flat.{rowsFrom, rowsOf, Within}
 use Rattle.tanner.proofs.Steps.{part-below, count-more, count-same, count-done}
 use borrow.Author.Needs.{needs}
 use Rattle.tanner.proofs.count_masked.Statement.{statement}
@@ -25,6 +25,7 @@ abbrev μ-loop : tie.MeasureT-loop
 bounds : (c : tie.In-loop Inv-loop μ-loop) → let s = c .before .before .before .before .before .args .starts .now in
     (getD s (c .before .loop .c) 0 ≤ getD s (c .before .loop .c + 1) 0)
     × (getD s (c .before .loop .c + 1) 0 ≤ length (c .before .before .before .before .before .args .flat .now))
+unfolding Within
 bounds c = c .before .before .before .before .before .pre .within (c .before .loop .c) (c .loop-test .taken)
 
 loop-holds : tie.Need-loop-holds Inv-loop μ-loop

@@ -1,0 +1,57 @@
+-- `belief::improve` meets its contract: no round where the initial word satisfies every check, else the rounds from the first messages. Assumes nothing.
+use mathlib.Core.Path.{_≡_, ap, _∙_}
+use lib.ListN.{length}
+use Rattle.belief.proofs.AtGraph.{initial-length}
+use Rattle.belief.proofs.Whole.{run-none, run-some}
+use borrow.Author.Needs.{needs}
+use Rattle.belief.proofs.improve.Statement.{statement}
+use Rattle.belief.proofs.improve.Tie as tie
+use Rattle.belief.proofs.improve.Reads as reads
+use Rattle.belief.proofs.improve.Lts as lts
+use Rattle.belief.proofs.first_messages.Reads as first-messages-reads
+use Rattle.belief.proofs.rounds.Reads as rounds-reads
+
+returns : tie.Need-returns
+returns c =
+    let start = c .before .before .before .before .before .before .before .before .before in
+    let a = start .args in
+    run-none (a .rule) (a .kind) (a .check-start .now) (a .check-bits .now) (a .llr .now) _ _ _ (start .pre .1 .1 .0) _ _ (c .if1 .taken) (start .pre .1 .1 .1 .1)
+
+first-messages-requires : tie.Need-first-messages-requires
+first-messages-requires c κs = search needs
+
+rounds-requires : tie.Need-rounds-requires
+rounds-requires c κs =
+    let first = c .before .before .before .before .before in
+    let p = first .before .before .before .before .before .before .before .before .before .before .before .pre in
+    (p .0, (first .first-messages .kept .1 .1 .0 ∙ p .1 .0, (ap length (p .1 .1 .0) ∙ initial-length _, (p .1 .1 .1 .0, p .1 .1 .1 .1))))
+
+same-length : tie.Need-same-length
+same-length c = search needs
+
+same-length-2 : tie.Need-same-length-2
+same-length-2 c = search needs
+
+same-length-3 : tie.Need-same-length-3
+same-length-3 c = search needs
+
+returns-2 : tie.Need-returns-2
+returns-2 c =
+    let done = c .before .before .before .before .before .before in
+    let first = done .before .before .before .before .before .before in
+    let start = first .before .before .before .before .before .before .before .before .before .before .before in
+    let a = start .args in
+    run-some (a .rule) (a .kind) (a .check-start .now) (a .check-bits .now) (a .llr .now) _ _ _ (start .pre .1 .1 .0) _ _ (start .pre .0) _ _ _ _ _
+    (first .before .before .if1 .left) (start .pre .1 .1 .1 .1) (first .first-messages .ensures) (done .rounds .ensures)
+
+pub improve-spec : {M : Type 1} → statement M
+improve-spec =
+    tie.close
+    (tie.spec
+    returns
+    first-messages-requires
+    rounds-requires
+    same-length
+    same-length-2
+    same-length-3
+    returns-2)

@@ -1,0 +1,4 @@
+pub mod Rounds
+pub mod Chosen
+pub mod Graph
+pub mod Passes

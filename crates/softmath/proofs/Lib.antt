@@ -1,0 +1,9 @@
+pub mod InPlace
+pub mod LeaveOneOut
+pub mod Signless
+pub mod MinSum
+pub mod Edges
+pub mod Steps
+pub mod Messages
+pub mod ZeroStart
+pub mod Cases

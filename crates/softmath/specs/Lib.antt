@@ -1,0 +1,4 @@
+pub mod Single
+pub mod Functions
+pub mod CheckNode
+pub mod VariableNode

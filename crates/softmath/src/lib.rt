@@ -1,0 +1,346 @@
+// The f32 arithmetic of a decoding round: the check step and the variable node, each operation rounded once in a fixed order.
+ghost use mathlib.Core.Path.{_≡_};
+ghost use mathlib.Core.List.{map};
+ghost use lib.ListN.{length};
+ghost use Rattle.softmath.specs.Single.{_⊘_, _⊗_, foldFrom, product, sumFrom};
+ghost use Rattle.softmath.specs.Functions.{tanh, atanh, clampUnit, magnitudeOf, decide};
+ghost use Rattle.softmath.specs.CheckNode.{atEach, turned, seen, minimaOf, minAnswer, minSum, clampedAnswer, negatedAnswer, before, middle, after};
+ghost use Rattle.softmath.specs.VariableNode.{decisionSum, answersAt, EdgesWithin, lessOwn, othersSummed, bitTurned};
+
+// How a check answers: the three rules of the staircase codes, and (174,91)'s own.
+pub enum DecodeRule {
+    SumProduct,
+    MinSum,
+    ScaledMinSum(f32),
+    Ft8,
+}
+
+// How a variable node makes its new messages: the total less the own answer, or the sum of the others.
+pub enum SumKind {
+    Total,
+    Others,
+}
+
+// What min-sum keeps of a check's messages: the two least magnitudes, where the least is first met, the sign of the product.
+struct Minima {
+    least: f32,
+    second: f32,
+    place: usize,
+    sign: f32,
+}
+
+// The fraction is worked out before the two tests choose, so that a pass over many floats works on several at a time.
+pub fn fast_tanh(x: f32) -> f32
+    ensures { λ r. ⌜ r ≡ tanh x ⌝ }
+{
+    let x2 = x * x;
+    let a = x * (945.0 + x2 * (105.0 + x2));
+    let b = 945.0 + x2 * (420.0 + x2 * 15.0);
+    let q = a / b;
+    if x < -4.97 {
+        -1.0
+    } else {
+        if x > 4.97 { 1.0 } else { q }
+    }
+}
+
+// The atanh by its fraction alone: past its pole near 1.1035 the sign turns, as in the Rust.
+pub fn fast_atanh(x: f32) -> f32
+    ensures { λ r. ⌜ r ≡ atanh x ⌝ }
+{
+    let x2 = x * x;
+    let a = x * (945.0 + x2 * (-735.0 + x2 * 64.0));
+    let b = 945.0 + x2 * (-1050.0 + x2 * 225.0);
+    a / b
+}
+
+// To -1.0 and 1.0; a NaN stays.
+pub fn clamp_unit(x: f32) -> f32
+    ensures { λ r. ⌜ r ≡ clampUnit x ⌝ }
+{
+    if x < -1.0 {
+        -1.0
+    } else {
+        if x > 1.0 { 1.0 } else { x }
+    }
+}
+
+// The value without its sign: 0.0 for both zeros, a NaN for a NaN.
+pub fn magnitude(x: f32) -> f32
+    ensures { λ r. ⌜ r ≡ magnitudeOf x ⌝ }
+{
+    if x < 0.0 {
+        -x
+    } else {
+        if x == 0.0 { 0.0 } else { x }
+    }
+}
+
+// The bit that a sum decides: 1 at or below zero, 0 for a NaN.
+pub fn decide(x: f32) -> u8
+    ensures { λ r. ⌜ r ≡ decide x ⌝ }
+{
+    if x <= 0.0 { 1 } else { 0 }
+}
+
+// ---- the check step
+
+// The tanh of each message over the divisor.
+fn tanh_over(divisor: f32, part: &mut [f32])
+    ensures { λ _. ⌜ now (part .exit) ≡ map (λ m. tanh (m ⊘ divisor)) (now (part .entry)) ⌝ }
+{
+    let mut i = 0;
+    while i < part.len() {
+        part[i] = fast_tanh(part[i] / divisor);
+        i += 1;
+    }
+}
+
+// What a rule does to each message by itself, before the checks take theirs together: any part of the work area.
+pub fn before_checks(rule: DecodeRule, part: &mut [f32])
+    ensures { λ _. ⌜ now (part .exit) ≡ map (before rule) (now (part .entry)) ⌝ }
+{
+    match rule {
+        DecodeRule::SumProduct => {
+            tanh_over(2.0, part);
+        }
+        DecodeRule::Ft8 => {
+            tanh_over(-2.0, part);
+        }
+        DecodeRule::MinSum => {}
+        DecodeRule::ScaledMinSum(_) => {}
+    }
+}
+
+// The product from `start` of the part, in order.
+fn product_from(start: f32, part: &[f32]) -> f32
+    ensures { λ r. ⌜ r ≡ foldFrom _⊗_ start (now (part .entry)) ⌝ }
+{
+    let mut p = start;
+    let mut i = 0;
+    while i < part.len() {
+        p = p * part[i];
+        i += 1;
+    }
+    p
+}
+
+// At each entry the product from 1.0 of the others, in row order: the product of those before is carried along.
+fn products(part: &mut [f32])
+    ensures { λ _. ⌜ now (part .exit) ≡ atEach product (now (part .entry)) ⌝ }
+{
+    let mut carried = 1.0;
+    let mut i = 0;
+    while i < part.len() {
+        let own = part[i];
+        part[i] = product_from(carried, &part[i + 1..]);
+        carried = carried * own;
+        i += 1;
+    }
+}
+
+// The sign with v's: a NaN and -0.0 are not negative.
+fn turn_sign(v: f32, sign: f32) -> f32
+    ensures { λ r. ⌜ r ≡ turned v sign ⌝ }
+{
+    if v < 0.0 { -sign } else { sign }
+}
+
+// One message more: a NaN is below nothing.
+fn note(m: Minima, i: usize, v: f32) -> Minima
+    ensures { λ r. ⌜ r ≡ seen m i v ⌝ }
+{
+    let a = magnitude(v);
+    let least = m.least;
+    let second = m.second;
+    let place = m.place;
+    let sign = turn_sign(v, m.sign);
+    if a < least {
+        return Minima {
+            least: a,
+            second: least,
+            place: i,
+            sign: sign,
+        };
+    }
+    if a < second {
+        return Minima {
+            least: least,
+            second: a,
+            place: place,
+            sign: sign,
+        };
+    }
+    Minima {
+        least: least,
+        second: second,
+        place: place,
+        sign: sign,
+    }
+}
+
+// The two least magnitudes of a check's messages, and the sign of their product.
+fn least_two(part: &[f32]) -> Minima
+    ensures { λ r. ⌜ r ≡ minimaOf (now (part .entry)) ⌝ }
+{
+    let infinity = 1.0 / 0.0;
+    let mut m = Minima {
+        least: infinity,
+        second: infinity,
+        place: 0,
+        sign: 1.0,
+    };
+    let mut i = 0;
+    while i < part.len() {
+        m = note(m, i, part[i]);
+        i += 1;
+    }
+    m
+}
+
+// (scale times sign) times magnitude.
+fn min_answer(scale: f32, m: Minima, i: usize, v: f32) -> f32
+    ensures { λ r. ⌜ r ≡ minAnswer scale m i v ⌝ }
+{
+    let sign = turn_sign(v, m.sign);
+    if i == m.place {
+        scale * sign * m.second
+    } else {
+        scale * sign * m.least
+    }
+}
+
+// Min-sum in place: the answers to a check's messages.
+fn min_sum(scale: f32, part: &mut [f32])
+    ensures { λ _. ⌜ now (part .exit) ≡ minSum scale (now (part .entry)) ⌝ }
+{
+    let m = least_two(part);
+    let mut i = 0;
+    while i < part.len() {
+        part[i] = min_answer(scale, m, i, part[i]);
+        i += 1;
+    }
+}
+
+// What a rule does to the messages of one check together.
+pub fn at_check(rule: DecodeRule, part: &mut [f32])
+    ensures { λ _. ⌜ now (part .exit) ≡ middle rule (now (part .entry)) ⌝ }
+{
+    match rule {
+        DecodeRule::SumProduct => {
+            products(part);
+        }
+        DecodeRule::Ft8 => {
+            products(part);
+        }
+        DecodeRule::MinSum => {
+            min_sum(1.0, part);
+        }
+        DecodeRule::ScaledMinSum(scale) => {
+            min_sum(scale, part);
+        }
+    }
+}
+
+// 2.0 times the atanh of each product, clamped.
+fn clamped_answers(part: &mut [f32])
+    ensures { λ _. ⌜ now (part .exit) ≡ map clampedAnswer (now (part .entry)) ⌝ }
+{
+    let mut i = 0;
+    while i < part.len() {
+        part[i] = 2.0 * fast_atanh(clamp_unit(part[i]));
+        i += 1;
+    }
+}
+
+// -2.0 times the atanh of each product.
+fn negated_answers(part: &mut [f32])
+    ensures { λ _. ⌜ now (part .exit) ≡ map negatedAnswer (now (part .entry)) ⌝ }
+{
+    let mut i = 0;
+    while i < part.len() {
+        part[i] = -2.0 * fast_atanh(part[i]);
+        i += 1;
+    }
+}
+
+// What a rule does to each answer by itself, after the checks: any part of the work area.
+pub fn after_checks(rule: DecodeRule, part: &mut [f32])
+    ensures { λ _. ⌜ now (part .exit) ≡ map (after rule) (now (part .entry)) ⌝ }
+{
+    match rule {
+        DecodeRule::SumProduct => {
+            clamped_answers(part);
+        }
+        DecodeRule::Ft8 => {
+            negated_answers(part);
+        }
+        DecodeRule::MinSum => {}
+        DecodeRule::ScaledMinSum(_) => {}
+    }
+}
+
+// ---- the variable node
+
+// The start and the answers at the edges, added in order.
+pub fn sum_at(start: f32, work: &[f32], edges: &[u16]) -> f32
+    requires { ⌜ EdgesWithin (now edges) (length (now work)) ⌝ }
+    ensures { λ r. ⌜ r ≡ sumFrom start (answersAt (now (work .entry)) (now (edges .entry))) ⌝ }
+{
+    let mut sum = start;
+    let mut k = 0;
+    while k < edges.len() {
+        let e = edges[k] as usize;
+        sum = sum + work[e];
+        k += 1;
+    }
+    sum
+}
+
+// At each edge the total less the own answer.
+fn less_own(total: f32, work: &mut [f32], edges: &[u16])
+    requires { ⌜ EdgesWithin (now edges) (length (now work)) ⌝ }
+    ensures { λ _. ⌜ now (work .exit) ≡ lessOwn total (now (edges .entry)) (now (work .entry)) ⌝ }
+{
+    let mut k = 0;
+    while k < edges.len() {
+        let e = edges[k] as usize;
+        work[e] = total - work[e];
+        k += 1;
+    }
+}
+
+// At each edge the channel value and the other answers, added in order: the sum of those before is carried along.
+fn sum_others(llr: f32, work: &mut [f32], edges: &[u16])
+    requires { ⌜ EdgesWithin (now edges) (length (now work)) ⌝ }
+    ensures { λ _. ⌜ now (work .exit) ≡ othersSummed llr (now (edges .entry)) (now (work .entry)) ⌝ }
+{
+    let mut carried = llr;
+    let mut k = 0;
+    while k < edges.len() {
+        let e = edges[k] as usize;
+        let own = work[e];
+        work[e] = sum_at(carried, work, &edges[k + 1..]);
+        carried = carried + own;
+        k += 1;
+    }
+}
+
+// A bit's decision, from its answers in the work area, and its new messages in their place.
+pub fn bit_step(kind: SumKind, llr: f32, work: &mut [f32], edges: &[u16]) -> u8
+    requires { ⌜ EdgesWithin (now edges) (length (now work)) ⌝ }
+    ensures { λ r. ⌜ r ≡ decide (decisionSum llr (answersAt (now (work .entry)) (now (edges .entry)))) ⌝ }
+    ensures { λ _. ⌜ now (work .exit) ≡ bitTurned kind llr (now (edges .entry)) (now (work .entry)) ⌝ }
+{
+    let bit = decide(sum_at(llr, work, edges));
+    match kind {
+        SumKind::Total => {
+            let total = llr + sum_at(0.0, work, edges);
+            less_own(total, work, edges);
+        }
+        SumKind::Others => {
+            sum_others(llr, work, edges);
+        }
+    }
+    bit
+}

@@ -1,0 +1,208 @@
+#!/usr/bin/env python3
+"""Makes the inputs and the expected output of the test program crates/softmath_replay.
+
+Run in the repository's root:  ORION_SRC=FOLDER python3 tools/softmath_replay.py
+FOLDER has the Rust files ldpc.rs and ldpc_codes.rs (or src--src--codec--ldpc.rs.txt and
+src--src--fec--ldpc_codes.rs.txt). rustc must be on the path.
+
+The Rust keeps the check step and the variable node inside its decoders, so their text is cut out of
+the two files and compiled unchanged inside a small harness: what it prints is the expected output.
+The only lines put in are those that hand the decision sum out."""
+import os, random, re, struct, subprocess, sys, tempfile
+
+SRC = os.environ.get('ORION_SRC')
+if not SRC:
+    sys.exit(__doc__)
+EDGES = [3, 7, 1, 9, 0, 5, 10, 2, 8, 4, 6]
+
+
+def source(*names):
+    for name in names:
+        path = os.path.join(SRC, name)
+        if os.path.exists(path):
+            return open(path, encoding='utf-8').read()
+    sys.exit('no such file in ORION_SRC: ' + ' or '.join(names))
+
+
+def braces(text, start):
+    """The text from start to the brace that closes the first one after it."""
+    depth, i = 0, text.index('{', start)
+    while True:
+        depth += {'{': 1, '}': -1}.get(text[i], 0)
+        i += 1
+        if depth == 0:
+            return text[start:i]
+
+
+def cut(text, mark, head):
+    """The block that starts with head, the first after mark."""
+    return braces(text, text.index(head, text.index(mark)))
+
+
+def harness():
+    ft8 = source('ldpc.rs', 'src--src--codec--ldpc.rs.txt')
+    stair = source('ldpc_codes.rs', 'src--src--fec--ldpc_codes.rs.txt')
+    functions = lambda t: cut(t, 'fn fast_tanh', 'fn fast_tanh') + '\n' + cut(t, 'fn fast_atanh', 'fn fast_atanh')
+    ft8_decided = cut(ft8, '// Variable-node hard decision', 'for i in 0..N')
+    stair_decided = cut(stair, '// Variable-node hard decision', 'for (bit, checks)')
+    assert ft8_decided.count('plain[i] = ') == 1 and stair_decided.count('hard[bit] = ') == 1
+    return '''
+#![allow(non_snake_case, unused)]
+use std::io::Read;
+mod ft8 {
+    pub mod f { pub FUNCTIONS_FT8 }
+    use f::*;
+    pub fn check(values: &[f32]) -> Vec<f32> {
+        let (M, m, mut e) = (1, vec![values.to_vec()], vec![vec![0.0f32; values.len()]]);
+        let (NUM_ROWS, NM) = ([values.len()], [(1..=values.len()).collect::<Vec<usize>>()]);
+        CHECK_FT8
+        e[0].clone()
+    }
+    pub fn bit(value: f32, answers: &[f32]) -> (f32, u8, Vec<f32>) {
+        let (N, llr, MN) = (1, [value], [[1, 2, 3]]);
+        let e: Vec<Vec<f32>> = answers.iter().map(|a| vec![*a]).collect();
+        let (mut m, mut plain, mut sums) = (e.clone(), [0u8], [0.0f32]);
+        DECIDED_FT8
+        MESSAGES_FT8
+        (sums[0], plain[0], m.iter().map(|r| r[0]).collect())
+    }
+}
+mod stair {
+    pub mod f { pub FUNCTIONS_STAIR }
+    use f::*;
+    #[derive(Clone, Copy)]
+    RULE
+    pub struct Graph {
+        check_bits: Vec<Vec<usize>>,
+        bit_checks: Vec<Vec<usize>>,
+        bit_check_edge_idx: Vec<Vec<usize>>,
+    }
+    impl Graph {
+        pub fn check(values: &[f32], rule: DecodeRule) -> Vec<f32> {
+            let deg = values.len();
+            let (check_start, msg, mut ext) = ([0usize], values.to_vec(), vec![0.0f32; deg]);
+            let mut tanh_half = vec![0.0f32; deg];
+            let g = Graph { check_bits: vec![(0..deg).collect()], bit_checks: vec![], bit_check_edge_idx: vec![] };
+            g.check_into(&check_start, &msg, &mut ext, &mut tanh_half, rule);
+            ext
+        }
+        fn check_into(&self, check_start: &[usize], msg: &[f32], ext: &mut [f32], tanh_half: &mut [f32], rule: DecodeRule) {
+            CHECK_STAIR
+        }
+        pub fn bit(value: f32, answers: &[f32]) -> (f32, u8, Vec<f32>) {
+            let n = answers.len();
+            let g = Graph { check_bits: vec![], bit_checks: vec![(0..n).collect()], bit_check_edge_idx: vec![vec![0; n]] };
+            let check_start: Vec<usize> = (0..n).collect();
+            let (mut hard, mut sums, mut msg) = (vec![0u8], vec![0.0f32], vec![0.0f32; n]);
+            g.bit_into(&check_start, &[value], answers, &mut hard, &mut sums, &mut msg);
+            (sums[0], hard[0], msg)
+        }
+        fn bit_into(&self, check_start: &[usize], llr: &[f32], ext: &[f32], hard: &mut [u8], sums: &mut [f32], msg: &mut [f32]) {
+            DECIDED_STAIR
+            MESSAGES_STAIR
+        }
+    }
+}
+const EDGES: [usize; 11] = EDGES_LIST;
+fn show(x: f32) {
+    if x.is_nan() { println!("nan") } else { println!("{:08x}", x.to_bits()) }
+}
+fn show_bit(answer: (f32, u8, Vec<f32>), work: &[f32], n: usize) {
+    let mut after = work.to_vec();
+    for k in 0..n { after[EDGES[k]] = answer.2[k]; }
+    show(answer.0);
+    println!("{:08x}", answer.1);
+    after.iter().for_each(|x| show(*x));
+}
+fn main() {
+    let mut bytes = Vec::new();
+    std::io::stdin().read_to_end(&mut bytes).unwrap();
+    for record in bytes.chunks_exact(52) {
+        let words: Vec<f32> = record.chunks_exact(4).map(|b| f32::from_le_bytes([b[0], b[1], b[2], b[3]])).collect();
+        let (what, n, parameter, work) = (record[0], record[1] as usize, words[1], &words[2..]);
+        let part = &work[..n];
+        let answers: Vec<f32> = (0..n).map(|k| work[EDGES[k]]).collect();
+        use stair::{DecodeRule, Graph};
+        match what {
+            0 => for &x in part {
+                let (t, a) = (ft8::f::fast_tanh(x), ft8::f::fast_atanh(x));
+                assert!(t.to_bits() == stair::f::fast_tanh(x).to_bits() || t.is_nan() && stair::f::fast_tanh(x).is_nan());
+                assert!(a.to_bits() == stair::f::fast_atanh(x).to_bits() || a.is_nan() && stair::f::fast_atanh(x).is_nan());
+                show(t);
+                show(a);
+            },
+            1 => Graph::check(part, DecodeRule::SumProduct).iter().for_each(|x| show(*x)),
+            2 => Graph::check(part, DecodeRule::MinSum).iter().for_each(|x| show(*x)),
+            3 => Graph::check(part, DecodeRule::ScaledMinSum(parameter)).iter().for_each(|x| show(*x)),
+            4 => ft8::check(part).iter().for_each(|x| show(*x)),
+            5 => show_bit(Graph::bit(parameter, &answers), work, n),
+            6 => show_bit(ft8::bit(parameter, &answers), work, n),
+            _ => unreachable!(),
+        }
+    }
+}
+'''.replace('pub FUNCTIONS_FT8', functions(ft8).replace('fn fast', 'pub fn fast')) \
+   .replace('pub FUNCTIONS_STAIR', functions(stair).replace('fn fast', 'pub fn fast')) \
+   .replace('CHECK_FT8', cut(ft8, '// Check-node update', 'for j in 0..M')) \
+   .replace('DECIDED_FT8', ft8_decided.replace('plain[i] = ', 'sums[i] = l; plain[i] = ')) \
+   .replace('MESSAGES_FT8', cut(ft8, '// Variable-to-check update', 'for i in 0..N')) \
+   .replace('RULE', cut(stair, 'pub enum DecodeRule', 'pub enum DecodeRule')) \
+   .replace('CHECK_STAIR', cut(stair, '// Check-node update', 'for (c, bits)')) \
+   .replace('DECIDED_STAIR', stair_decided.replace('hard[bit] = ', 'sums[bit] = l; hard[bit] = ')) \
+   .replace('MESSAGES_STAIR', cut(stair, '// Variable→check update', 'for (bit, checks)')) \
+   .replace('EDGES_LIST', str(EDGES))
+
+
+# ---- the inputs
+
+def bits(x):
+    return struct.unpack('<I', struct.pack('<f', x))[0]
+
+
+def record(what, n, parameter, floats):
+    return struct.pack('<BBHI11I', what, n, 0, parameter, *(floats + [0] * (11 - len(floats))))
+
+
+def around(x, reach):
+    return [b + d for b in (bits(x), bits(-x)) for d in range(-reach, reach + 1)]
+
+
+SPECIAL = [0, 0x80000000, 0x7f800000, 0xff800000, 0x7fc00000, 1, 0x80000001, 0x007fffff, 0x807fffff, 0x00800000, 0x80800000, 0x7f7fffff, 0xff7fffff]
+NEAR = [bits(x) for x in (0.5, -0.5, 1.0, -1.0, 2.0, -2.0, 3.0, -3.0, 9.94, -9.94, 9.95, -9.95, 20.0, -20.0)]
+SCALES = [bits(x) for x in (1.0, 0.75, 0.8, 0.0, -0.0, -1.25)] + [0x7f800000, 0x7fc00000, 1]
+
+
+def inputs():
+    r = random.Random(174)
+    xs = SPECIAL + around(4.97, 4) + around(1.0, 4) + around(1.1035, 4) + around(1.10353, 4) + [bits(5.0), bits(-5.0), bits(0.5)]
+    xs += [r.getrandbits(32) for _ in range(10000)]
+    xs += [r.randrange(bits(0.001), bits(6.0)) | r.getrandbits(1) << 31 for _ in range(1000)]
+    out = [record(0, len(xs[i:i + 11]), 0, xs[i:i + 11]) for i in range(0, len(xs), 11)]
+    mixed = lambda: r.choice([lambda: r.choice(SPECIAL), lambda: r.choice(NEAR), lambda: r.choice(NEAR), lambda: bits(r.gauss(0, 4)), lambda: bits(r.gauss(0, 4)), lambda: r.getrandbits(32)])()
+    usual = lambda: bits(r.gauss(1, 3))
+    for what in (1, 2, 3, 4):
+        for degree in range(4, 12):
+            for turn in range(16):
+                draw = usual if turn < 6 else (lambda: r.choice(NEAR)) if turn < 10 else mixed
+                out.append(record(what, degree, r.choice(SCALES), [draw() for _ in range(degree)]))
+    out.append(record(2, 4, 0, [bits(2.0), bits(-3.0), bits(2.0), 0x7fc00000]))
+    scattered = lambda answers: [answers[EDGES.index(i)] if EDGES.index(i) < len(answers) else 0x3f000000 + i for i in range(11)]
+    for what, counts in ((5, range(1, 7)), (6, [3, 3])):
+        out.append(record(what, 3, bits(16777216.0), scattered([bits(1.0), bits(1.0), 0])))
+        for n in counts:
+            out.append(record(what, n, 0x80000000, scattered([0x80000000] * n)))
+            for turn in range(24):
+                draw = usual if turn < 8 else mixed
+                out.append(record(what, n, draw(), scattered([draw() for _ in range(n)])))
+    return b''.join(out)
+
+
+folder = 'crates/softmath_replay'
+data = inputs()
+with tempfile.TemporaryDirectory() as tmp:
+    open(tmp + '/harness.rs', 'w', encoding='utf-8').write(harness())
+    subprocess.run(['rustc', '--edition', '2021', '-O', '-A', 'warnings', '-o', tmp + '/harness', tmp + '/harness.rs'], check=True)
+    answers = subprocess.run([tmp + '/harness'], input=data, stdout=subprocess.PIPE, check=True).stdout
+open(folder + '/stdin', 'wb').write(data)
+open(folder + '/stdout', 'wb').write(answers)
+print(len(data) // 52, 'records,', answers.count(b'\n'), 'lines')
