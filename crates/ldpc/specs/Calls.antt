@@ -1,0 +1,18 @@
+-- What the calls of this crate answer: the cases of their enums, and the conditions on which each call is turned down, in order.
+use mathlib.Core.Bool.{not}
+use mathlib.Core.List.{List, [], _∷_}
+use Prim.Native.Nat.{ℕ, _%_}
+use lib.Dec.{eqb}
+use lib.ListN.{length, getD}
+use Rattle.refusal.specs.Outcome.{Outcome, accepted, refused, Condition, _when_}
+use Rattle.refusal.specs.Numbers.{numberOf}
+use Rattle.ldpc.specs.declared.Count.{Count}
+use Rattle.ldpc.specs.declared.Count.the-variants as count
+
+abbrev pub countOf : Count → Outcome ℕ
+countOf (count.Value n) = accepted n
+countOf (count.Refused r) = refused (numberOf r)
+
+-- "input not its fixed length (.. (174,91) .. 174 values or bits ..)"
+abbrev pub countRefusals : List ℕ → List Condition
+countRefusals hard = (4 when not (eqb (length hard) 174)) ∷ []

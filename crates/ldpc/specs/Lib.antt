@@ -1,0 +1,4 @@
+pub mod Tables
+pub mod Code174
+pub mod Agreement
+pub mod Calls
