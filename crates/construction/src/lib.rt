@@ -1,0 +1,1 @@
+// The construction of the staircase codes' message columns.
