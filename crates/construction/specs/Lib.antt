@@ -1,3 +1,4 @@
 pub mod Draw
 pub mod Columns
 pub mod Quick
+pub mod Tables

@@ -1,0 +1,4 @@
+pub mod Bits
+pub mod Searches
+pub mod Columns
+pub mod Marks
