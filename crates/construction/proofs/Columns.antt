@@ -74,7 +74,7 @@ three-stored (a ∷ (b ∷ [])) x y z e s = absurd (omega arith)
 three-stored (a ∷ (b ∷ (c ∷ []))) x y z e s = s
 three-stored (a ∷ (b ∷ (c ∷ (d ∷ l)))) x y z e s = absurd (omega arith)
 
-either-below : (b : Bool) (x y m : ℕ) → x < m → y < m → cond b x y < m
+pub either-below : (b : Bool) (x y m : ℕ) → x < m → y < m → cond b x y < m
 either-below true x y m p q = p
 either-below false x y m p q = q
 

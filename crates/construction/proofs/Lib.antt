@@ -2,3 +2,4 @@ pub mod Bits
 pub mod Searches
 pub mod Columns
 pub mod Marks
+pub mod Picks

@@ -55,7 +55,7 @@ loop-again : tie.Need-loop-again Inv-loop μ-loop
 loop-again c = let turn = c .before .before .before .before .before .before in (search needs, (search needs, joined-more _ _ _ _ _ _ (turn .loop .inv .1 .0) (turn .loop .inv .1 .1) (c .before .before .mark-column .ensures)))
 
 same-length : tie.Need-same-length Inv-loop μ-loop
-same-length c = c .before .loop .inv .1 .0 ∙ length-set _ _ _
+same-length c = c .before .loop .inv .1 .0 ∙ simp length-set
 
 returns : tie.Need-returns Inv-loop μ-loop
 returns c = let e : c .before .loop .j ≡ c .before .before .before .before .args .n = omega arith in joined-all _ _ _ _ (c .before .before .before .before .pre .0) (rw e at (c .before .loop .inv .1 .1))

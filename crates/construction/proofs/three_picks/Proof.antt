@@ -1,3 +1,10 @@
+-- `construction::three_picks` meets its contract. The invariant: the first t picks are made. Assumes nothing.
+use mathlib.Core.Path.{_≡_, refl, sym, _∙_}
+use Prim.Native.Nat.{_-_, _≤_}
+use native.Mathlib.Omega.{arith}
+use lib.ListN.{length}
+use Rattle.construction.specs.Tables.{Picked}
+use Rattle.construction.proofs.Picks.{picked-none, picked-more, ready-still, flags-still}
 use borrow.Author.Needs.{needs}
 use Rattle.construction.proofs.three_picks.Statement.{statement}
 use Rattle.construction.proofs.three_picks.Tie as tie
@@ -7,50 +14,40 @@ use Rattle.construction.proofs.clear_marks.Reads as clear-marks-reads
 use Rattle.construction.proofs.place.Reads as place-reads
 
 abbrev Inv-loop : tie.InvT-loop
-Inv-loop rows₀ n loads marks₀ state at₀ relaxed₀ t₀ rows marks at relaxed t = ?
+Inv-loop rows₀ n loads marks₀ state at₀ relaxed₀ t₀ rows marks at relaxed t = (t ≤ 3) × Picked (length loads) n t state rows₀ at relaxed rows marks
 
 abbrev μ-loop : tie.MeasureT-loop
-μ-loop rows₀ n loads marks₀ state at₀ relaxed₀ t₀ rows marks at relaxed t = ?
+μ-loop rows₀ n loads marks₀ state at₀ relaxed₀ t₀ rows marks at relaxed t = 3 - t
 
--- src/lib.rt:299:5
 clear-marks-requires : tie.Need-clear-marks-requires Inv-loop μ-loop
 clear-marks-requires c κs = search needs
 
--- src/lib.rt:303:5
 loop-holds : tie.Need-loop-holds Inv-loop μ-loop
-loop-holds c = search needs
+loop-holds c = let start = c .before .before .before .before .before .before .before in (search needs, rw (c .before .before .clear-marks .ensures, start .pre .0 .flagsAre) (picked-none _ _ _ _ (start .pre .1 .1)))
 
--- src/lib.rt:304:13
 place-requires : tie.Need-place-requires Inv-loop μ-loop
-place-requires c κs = search needs
+place-requires c κs = let start = c .before .before .before .before .before .before .before .before .before .before .before in let so = c .before .before .before .loop .inv .1 in (ready-still (start .pre .0) so, (omega (arith, so .size), (rw (so .earlier) (start .pre .1 .1), flags-still (start .pre .0) so)))
 
--- src/lib.rt:306:9
 add-relaxed : tie.Need-add-relaxed Inv-loop μ-loop
-add-relaxed c = search needs
+add-relaxed c = omega (arith, c .before .before .before .before .before .before .before .before .before .loop .inv .1 .atMost, c .before .before .before .before .before .place .ensures .atMost)
 
--- src/lib.rt:307:9
 add-t : tie.Need-add-t Inv-loop μ-loop
 add-t c = search needs
 
--- src/lib.rt:303:5
 loop-less : tie.Need-loop-less Inv-loop μ-loop
 loop-less c = search needs
 
--- src/lib.rt:303:5
 loop-again : tie.Need-loop-again Inv-loop μ-loop
-loop-again c = search needs
+loop-again c = let turn = c .before .before .before .before .before .before .before .before .before in (search needs, picked-more (omega arith) (turn .loop .inv .1) (c .before .before .before .before .before .place .ensures) (c .before .before .before .before .before .place .kept .1 .1 .1 .1 .0))
 
--- src/lib.rt:293:1
 same-length : tie.Need-same-length Inv-loop μ-loop
-same-length c = search needs
+same-length c = c .before .loop .inv .1 .size
 
--- src/lib.rt:293:1
 same-length-2 : tie.Need-same-length-2 Inv-loop μ-loop
-same-length-2 c = search needs
+same-length-2 c = c .before .loop .inv .1 .flagsAre ∙ sym (c .before .before .before .before .before .before .before .before .before .pre .0 .flagsAre)
 
--- src/lib.rt:293:1
 returns : tie.Need-returns Inv-loop μ-loop
-returns c = search needs
+returns c = let e : c .before .loop .t ≡ 3 = omega arith in rw e at (c .before .loop .inv .1)
 
 pub three-picks-spec : {M : Type 1} → statement M
 three-picks-spec =
