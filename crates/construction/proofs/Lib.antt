@@ -3,3 +3,4 @@ pub mod Searches
 pub mod Columns
 pub mod Marks
 pub mod Picks
+pub mod Made

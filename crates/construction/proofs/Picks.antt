@@ -140,8 +140,8 @@ picked-none m n state rows all = record {
   atMost = omega arith;
   picked = refl;
   below =
-    let e : 3 * n + 0 ≡ 3 * n = omega arith in
-    rw e all;
+      let e : 3 * n + 0 ≡ 3 * n = omega arith in
+      rw e all;
   flagsAre = length-replicate m 0;
   flags = λ r h. rw (getD-replicate {A = ℕ} m r 0 0 (omega (arith, length-replicate {A = ℕ} m 0)));
 }
@@ -162,10 +162,10 @@ picked-more {m} {n} {t} {state} {rows} {rows′} {rows″} {marks′} {marks″}
       relaxes = rw (add-one, q .relaxes, same, p .relaxes);
       atMost = omega (arith, p .atMost, q .atMost);
       picked =
-        rw (stored, add-one, drop-set-add (3 * n) rows′ t (c .row), take-suc-set (drop (3 * n) rows′) t (c .row) (simp length-drop (omega arith)), p .picked);
+          rw (stored, add-one, drop-set-add (3 * n) rows′ t (c .row), take-suc-set (drop (3 * n) rows′) t (c .row) (simp length-drop (omega arith)), p .picked);
       below =
-        let e : 3 * n + (t + 1) ≡ 3 * n + t + 1 = omega arith in
-        rw (e, stored) (below-more m (3 * n + t) (c .row) rows′ long (rw same at (q .low)) (p .below));
+          let e : 3 * n + (t + 1) ≡ 3 * n + t + 1 = omega arith in
+          rw (e, stored) (below-more m (3 * n + t) (c .row) rows′ long (rw same at (q .low)) (p .below));
       flagsAre = size ∙ p .flagsAre;
       flags = rw add-one (rw (same, cs, p .picked) at (q .flags));
     }
