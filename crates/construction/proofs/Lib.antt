@@ -4,3 +4,4 @@ pub mod Columns
 pub mod Marks
 pub mod Picks
 pub mod Made
+pub mod Agree

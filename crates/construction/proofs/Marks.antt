@@ -15,21 +15,20 @@ use Rattle.construction.specs.Tables.{flagAt, columnAt, columnsIn, AllBe
 use Rattle.construction.proofs.Columns.{holds-append, times-append, times-le}
 
 -- ---- one store
-flag-set-if : (v : List ℕ) (q r : ℕ) (b : Bool) → eqb q r ≡ b → q < length v → flagAt (set v q 1) r ≡ (b || flagAt v r)
+flag-set-if : (v : List ℕ) (q r : ℕ) (b : Bool) → eqb q r ≡ b → r < length v → flagAt (set v q 1) r ≡ (b || flagAt v r)
 unfolding flagAt
-flag-set-if v q r true e h =
-    let p = eqb-true q r e in
-    rw (← p, getD-set-same v q 1 0 h)
+flag-set-if v q r true e h = rw (eqb-true q r e, getD-set-same v r 1 0 h)
 flag-set-if v q r false e h = rw (getD-set-other v q r 1 0 (λ p. eqb-false q r e (sym p)))
 
-flag-set-at : (v : List ℕ) (q r : ℕ) → q < length v → flagAt (set v q 1) r ≡ (eqb q r || flagAt v r)
+pub flag-set-at : (v : List ℕ) (q r : ℕ) → r < length v → flagAt (set v q 1) r ≡ (eqb q r || flagAt v r)
 flag-set-at v q r h = flag-set-if v q r (eqb q r) refl h
 
-load-set-if : (v : List ℕ) (q r : ℕ) (b : Bool) → eqb q r ≡ b → q < length v → getD (set v q (getD v q 0 + 1)) r 0 ≡ cond b 1 0 + getD v r 0
-load-set-if v q r true e h =
-    let p = eqb-true q r e in
-    rw (← p, getD-set-same v q (getD v q 0 + 1) 0 h) (omega arith)
+load-set-if : (v : List ℕ) (q r : ℕ) (b : Bool) → eqb q r ≡ b → r < length v → getD (set v q (getD v q 0 + 1)) r 0 ≡ cond b 1 0 + getD v r 0
+load-set-if v q r true e h = rw (eqb-true q r e, getD-set-same v r (getD v r 0 + 1) 0 h) (omega arith)
 load-set-if v q r false e h = rw (getD-set-other v q r (getD v q 0 + 1) 0 (λ p. eqb-false q r e (sym p))) (omega arith)
+
+pub load-set-at : (v : List ℕ) (q r : ℕ) → r < length v → getD (set v q (getD v q 0 + 1)) r 0 ≡ cond (eqb q r) 1 0 + getD v r 0
+load-set-at v q r h = load-set-if v q r (eqb q r) refl h
 
 -- ---- a column's rows, one after another
 one-holds : (q r : ℕ) → holds (q ∷ []) r ≡ eqb q r
@@ -40,7 +39,7 @@ one-times : (q r : ℕ) → times (q ∷ []) r ≡ cond (eqb q r) 1 0
 unfolding times
 one-times q r = omega arith
 
-or-swap : (a b c : Bool) → (b || (a || c)) ≡ ((a || b) || c)
+pub or-swap : (a b c : Bool) → (b || (a || c)) ≡ ((a || b) || c)
 or-swap true b c = or-true b
 or-swap false b c = refl
 
@@ -48,27 +47,23 @@ pub marked-none : (u : List ℕ) → Marked [] u u
 unfolding Marked holds
 marked-none u r h = refl
 
-module _ (c u v : List ℕ) (i : ℕ) (more : i < length c) (size : length v ≡ length u) (below : AllBelow (length u) c) where
-  inside : getD c i 0 < length v
-  unfolding AllBelow
-  inside = omega (arith, below i more)
-
+module _ (c u v : List ℕ) (i : ℕ) (more : i < length c) (size : length v ≡ length u) where
   pub marked-more : Marked (take i c) u v → Marked (take (i + 1) c) u (set v (getD c i 0) 1)
   unfolding Marked
   marked-more inv r h =
-      flag-set-at v (getD c i 0) r inside
+      flag-set-at v (getD c i 0) r (omega arith)
       ∙ rw (inv r h, add-one, take-suc c i 0 more, holds-append (take i c) (getD c i 0 ∷ []) r, one-holds (getD c i 0) r)
       (or-swap (holds (take i c) r) (eqb (getD c i 0) r) (flagAt u r))
 
   pub loaded-more : Loaded (take i c) u v → Loaded (take (i + 1) c) u (set v (getD c i 0) (getD v (getD c i 0) 0 + 1))
   unfolding Loaded
   loaded-more inv r h =
-      load-set-if v (getD c i 0) r (eqb (getD c i 0) r) refl inside
+      load-set-at v (getD c i 0) r (omega arith)
       ∙ rw (inv r h, add-one, take-suc c i 0 more, times-append (take i c) (getD c i 0 ∷ []) r, one-times (getD c i 0) r) (omega arith)
 
-  pub loaded-room : Room (length c) u → Loaded (take i c) u v → getD v (getD c i 0) 0 + 1 < 65536
+  pub loaded-room : AllBelow (length u) c → Room (length c) u → Loaded (take i c) u v → getD v (getD c i 0) 0 + 1 < 65536
   unfolding Room Loaded AllBelow
-  loaded-room room inv =
+  loaded-room below room inv =
       let q = getD c i 0 in
       let s : length (take i c) ≤ i = simp length-take (omega arith) in
       omega (arith, room q (below i more), inv q (below i more), times-le (take i c) q)
@@ -107,10 +102,10 @@ pub with-none : (c : List ℕ) (q : ℕ) (u : List ℕ) → holds c q ≡ false 
 unfolding MarkedWith
 with-none c q u e r h = rw e
 
-pub joined-all : (cs : List (List ℕ)) (q : ℕ) (u v : List ℕ) → q < length u → Joined cs q (set u q 1) v → AllMarked cs q u v
+pub joined-all : (cs : List (List ℕ)) (q : ℕ) (u v : List ℕ) → Joined cs q (set u q 1) v → AllMarked cs q u v
 unfolding Joined AllMarked
-joined-all cs q u v low inv r h =
-    inv r (simp length-set (omega arith)) ∙ rw (flag-set-at u q r low) (or-swap (eqb q r) (together cs q r) (flagAt u r))
+joined-all cs q u v inv r h =
+    inv r (simp length-set (omega arith)) ∙ rw (flag-set-at u q r h) (or-swap (eqb q r) (together cs q r) (flagAt u r))
 
 -- ---- zeros
 pub cleared-more : (u v : List ℕ) (i : ℕ) → i < length v → length v ≡ length u → v ≡ replicate i 0 ++ drop i u → set v i 0 ≡ replicate (i + 1) 0 ++ drop (i + 1) u

@@ -2,3 +2,4 @@ pub mod Draw
 pub mod Columns
 pub mod Quick
 pub mod Tables
+pub mod Codes

@@ -1,4 +1,6 @@
 // The construction of the staircase codes' message columns, proved to give what `specs/Columns.antt` says.
+pub mod codes;
+
 ghost use mathlib.Core.Path.{_≡_};
 ghost use mathlib.Core.Bool.{Bool, true, false};
 ghost use mathlib.Core.List.{List, [], _∷_, _++_};

@@ -41,7 +41,7 @@ loop-less : tie.Need-loop-less Inv-loop μ-loop
 loop-less c = search needs
 
 loop-again : tie.Need-loop-again Inv-loop μ-loop
-loop-again c = (search needs, (simp length-set (omega arith), marked-more _ _ _ _ (c .before .loop-test .taken) (c .before .before .loop .inv .1 .0) (c .before .before .before .pre) (c .before .before .loop .inv .1 .1)))
+loop-again c = (search needs, (simp length-set (omega arith), marked-more _ _ _ _ (c .before .loop-test .taken) (c .before .before .loop .inv .1 .0) (c .before .before .loop .inv .1 .1)))
 
 same-length : tie.Need-same-length Inv-loop μ-loop
 same-length c = search needs

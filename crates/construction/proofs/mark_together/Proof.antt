@@ -58,7 +58,7 @@ same-length : tie.Need-same-length Inv-loop μ-loop
 same-length c = c .before .loop .inv .1 .0 ∙ simp length-set
 
 returns : tie.Need-returns Inv-loop μ-loop
-returns c = let e : c .before .loop .j ≡ c .before .before .before .before .args .n = omega arith in joined-all _ _ _ _ (c .before .before .before .before .pre .0) (rw e at (c .before .loop .inv .1 .1))
+returns c = let e : c .before .loop .j ≡ c .before .before .before .before .args .n = omega arith in joined-all _ _ _ _ (rw e at (c .before .loop .inv .1 .1))
 
 pub mark-together-spec : {M : Type 1} → statement M
 mark-together-spec =
