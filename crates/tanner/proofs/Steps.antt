@@ -1,0 +1,55 @@
+-- One turn of each counting loop: what is left to do, said of the rest of the list. Assumes nothing.
+use mathlib.Core.Path.{_≡_, refl, sym, ap, _∙_}
+use mathlib.Core.List.{List, [], _∷_}
+use Prim.Native.Nat.{ℕ, zero, suc, _+_, _-_, _<_, _≤_}
+use native.Mathlib.Numerals.{add-one}
+use native.Mathlib.Omega.{arith}
+use lib.Bits.{bitAnd, bitXor}
+use lib.ListN.{length, getD, take, drop, drop-of-length-le, length-take, length-drop}
+use lib.Seq.{drop-cons, getD-take, getD-drop}
+use borrow.Author.Tests.{eq-eqb, ne-eqb}
+use Rattle.tanner.specs.Checks.{xorFrom, nonzero, countMasked}
+use Rattle.tanner.specs.Flat.{cut, rowsFrom, Below}
+
+pub xor-more : (ps bytes : List ℕ) (x i z : ℕ) → i < length ps → xorFrom x (drop i ps) bytes ≡ z
+    → xorFrom (bitXor x (getD bytes (getD ps i 0) 0)) (drop (i + 1) ps) bytes ≡ z
+unfolding xorFrom
+xor-more ps bytes x i z h e = rw (drop-cons ps i 0, ← add-one) at e
+
+pub xor-done : (ps bytes : List ℕ) (x i z : ℕ) → length ps ≤ i → xorFrom x (drop i ps) bytes ≡ z → x ≡ z
+unfolding xorFrom
+xor-done ps bytes x i z h e = rw (drop-of-length-le ps h) at e
+
+pub rows-more : (s f : List ℕ) (c : ℕ) → c + 1 < length s
+    → rowsFrom s c f ≡ take (getD s (c + 1) 0 - getD s c 0) (drop (getD s c 0) f) ∷ rowsFrom s (c + 1) f
+unfolding rowsFrom cut
+rows-more s f c h = rw (drop-cons s (c + 1) 0, add-one (c + 1))
+
+pub rows-done : (s f : List ℕ) (c : ℕ) → length s ≤ c + 1 → rowsFrom s c f ≡ []
+unfolding rowsFrom cut
+rows-done s f c h = rw (drop-of-length-le s h)
+
+-- what holds of each entry holds of each entry of a part
+pub part-below : (n : ℕ) (f : List ℕ) (a b : ℕ) → Below n f → Below n (take (b - a) (drop a f))
+unfolding Below
+part-below n f a b low k h =
+    let p : k < b - a = omega (arith, simp length-take at h) in
+    let q : a + k < length f = omega (arith, simp (length-take, length-drop) at h) in
+    rw (getD-take, getD-drop) (low (a + k) q)
+
+module _ (mask : ℕ) (s f bytes : List ℕ) (c u z x : ℕ) (h : c + 1 < length s)
+    (e : x ≡ xorFrom 0 (take (getD s (c + 1) 0 - getD s c 0) (drop (getD s c 0) f)) bytes)
+    (i : u + countMasked mask (rowsFrom s c f) bytes ≡ z) where
+  counted : u + (nonzero (bitAnd x mask) + countMasked mask (rowsFrom s (c + 1) f) bytes) ≡ z
+  unfolding countMasked
+  counted = rw e (rw (rows-more s f c h) at i)
+
+  pub count-more : (bitAnd x mask ≡ 0 → ⊥) → u + 1 + countMasked mask (rowsFrom s (c + 1) f) bytes ≡ z
+  count-more n = omega (arith, simp (ne-eqb _ _ n) at counted)
+
+  pub count-same : bitAnd x mask ≡ 0 → u + countMasked mask (rowsFrom s (c + 1) f) bytes ≡ z
+  count-same n = omega (arith, simp (eq-eqb _ _ n) at counted)
+
+pub count-done : (mask : ℕ) (s f bytes : List ℕ) (c u z : ℕ) → length s ≤ c + 1 → u + countMasked mask (rowsFrom s c f) bytes ≡ z → u ≡ z
+unfolding countMasked
+count-done mask s f bytes c u z h e = omega (arith, rw (rows-done s f c h) at e)

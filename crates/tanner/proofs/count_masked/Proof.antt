@@ -1,0 +1,120 @@
+-- `tanner::count_masked` meets its contract. The invariant: what is counted so far, with what the rest counts, is the whole. Assumes nothing.
+use mathlib.Core.Path.{_≡_, refl}
+use mathlib.Core.Logic.{⊎-elim}
+use Prim.Native.Nat.{ℕ, _+_, _-_, _≤_, _<_}
+use native.Mathlib.Omega.{arith}
+use lib.ListN.{length, drop, getD}
+use Rattle.tanner.specs.Checks.{countMasked}
+use Rattle.tanner.specs.Flat.{rowsFrom, rowsOf}
+use Rattle.tanner.proofs.Steps.{part-below, count-more, count-same, count-done}
+use borrow.Author.Needs.{needs}
+use Rattle.tanner.proofs.count_masked.Statement.{statement}
+use Rattle.tanner.proofs.count_masked.Tie as tie
+use Rattle.tanner.proofs.count_masked.Reads as reads
+use Rattle.tanner.proofs.count_masked.Lts as lts
+use Rattle.tanner.proofs.xor_at.Reads as xor-at-reads
+
+abbrev Inv-loop : tie.InvT-loop
+Inv-loop starts flat bytes mask unsatisfied₀ c₀ unsatisfied c =
+    (c < length starts) × (unsatisfied ≤ c) × (unsatisfied + countMasked mask (rowsFrom starts c flat) bytes ≡ countMasked mask (rowsOf starts flat) bytes)
+
+abbrev μ-loop : tie.MeasureT-loop
+μ-loop starts flat bytes mask unsatisfied₀ c₀ unsatisfied c = length starts - c
+
+-- in a turn: the bounds of the check's positions
+bounds : (c : tie.In-loop Inv-loop μ-loop) → let s = c .before .before .before .before .before .args .starts .now in
+    (getD s (c .before .loop .c) 0 ≤ getD s (c .before .loop .c + 1) 0)
+    × (getD s (c .before .loop .c + 1) 0 ≤ length (c .before .before .before .before .before .args .flat .now))
+bounds c = c .before .before .before .before .before .pre .within (c .before .loop .c) (c .loop-test .taken)
+
+loop-holds : tie.Need-loop-holds Inv-loop μ-loop
+loop-holds c = search needs
+
+add-loop : tie.Need-add-loop Inv-loop μ-loop
+add-loop c = search needs
+
+mul-a : tie.Need-mul-a Inv-loop μ-loop
+mul-a c = search needs
+
+shared-slice-read-a : tie.Need-shared-slice-read-a Inv-loop μ-loop
+shared-slice-read-a c = search needs
+
+cast-a : tie.Need-cast-a Inv-loop μ-loop
+cast-a c = omega (arith, c .shared-slice-known4 .given (c .before .before .loop .c))
+
+add-b : tie.Need-add-b Inv-loop μ-loop
+add-b c = search needs
+
+mul-b : tie.Need-mul-b Inv-loop μ-loop
+mul-b c = search needs
+
+shared-slice-read-b : tie.Need-shared-slice-read-b Inv-loop μ-loop
+shared-slice-read-b c = search needs
+
+cast-b : tie.Need-cast-b Inv-loop μ-loop
+cast-b c = omega (arith, c .shared-slice-known5 .given (c .before .before .before .loop .c + 1))
+
+mul-xor-at : tie.Need-mul-xor-at Inv-loop μ-loop
+mul-xor-at c = omega (arith, bounds (c .before .before))
+
+sub-xor-at : tie.Need-sub-xor-at Inv-loop μ-loop
+sub-xor-at c = omega (arith, bounds (c .before .before))
+
+part-xor-at-start : tie.Need-part-xor-at-start Inv-loop μ-loop
+part-xor-at-start c = omega (arith, bounds (c .before .before))
+
+part-xor-at-end : tie.Need-part-xor-at-end Inv-loop μ-loop
+part-xor-at-end c = omega (arith, bounds (c .before .before))
+
+xor-at-requires : tie.Need-xor-at-requires Inv-loop μ-loop
+xor-at-requires c κs =
+    let loop = c .before .before .before .before in
+    let start = loop .before .before .before .before in
+    let s = start .args .starts .now in
+    part-below _ _ (getD s (loop .loop .c) 0) (getD s (loop .loop .c + 1) 0) (start .pre .low)
+
+add-unsatisfied : tie.Need-add-unsatisfied Inv-loop μ-loop
+add-unsatisfied c = search needs
+
+add-c : tie.Need-add-c Inv-loop μ-loop
+add-c c = search needs
+
+loop-less : tie.Need-loop-less Inv-loop μ-loop
+loop-less c = search needs
+
+loop-again : tie.Need-loop-again Inv-loop μ-loop
+loop-again c =
+    let turn = c .before .before .before .before .before in
+    ⊎-elim
+    (λ w. (search needs, omega arith, rw (w .1) (count-more _ _ _ _ _ _ _ _ (turn .loop-test .taken) (c .before .xor-at .ensures) (turn .before .loop .inv .2) (w .0 .taken))))
+    (λ w. (search needs, omega arith, rw (w .1) (count-same _ _ _ _ _ _ _ _ (turn .loop-test .taken) (c .before .xor-at .ensures) (turn .before .loop .inv .2) (w .0 .left))))
+    (c .if1 .came)
+
+returns : tie.Need-returns Inv-loop μ-loop
+returns c = count-done _ _ _ _ _ _ _ (c .loop-test .left) (c .before .loop .inv .2)
+
+pub count-masked-spec : {M : Type 1} → statement M
+count-masked-spec =
+    tie.close
+    (tie.spec
+    Inv-loop
+    μ-loop
+    loop-holds
+    add-loop
+    mul-a
+    shared-slice-read-a
+    cast-a
+    add-b
+    mul-b
+    shared-slice-read-b
+    cast-b
+    mul-xor-at
+    sub-xor-at
+    part-xor-at-start
+    part-xor-at-end
+    xor-at-requires
+    add-unsatisfied
+    add-c
+    loop-less
+    loop-again
+    returns)
