@@ -14,7 +14,7 @@ taps i j (c ∷ cs) = let more = taps i (suc j) cs in cond (holds c i) (j ∷ mo
 -- "then K+i, then K+i-1": row 0 has one parity entry, every other row two
 unfoldable pub parityEntries : ℕ → ℕ → List ℕ
 parityEntries k zero = k ∷ []
-parityEntries k (suc i) = k + suc i ∷ (k + i ∷ [])
+parityEntries k (suc i) = (k + suc i) ∷ ((k + i) ∷ [])
 
 unfoldable pub checkRow : ℕ → List (List ℕ) → ℕ → List ℕ
 checkRow k cols i = taps i 0 cols ++ parityEntries k i
