@@ -1,0 +1,4 @@
+pub mod Threes
+pub mod N512R12
+pub mod N576R23
+pub mod N512R34
