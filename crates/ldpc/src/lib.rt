@@ -9,7 +9,7 @@ ghost use Rattle.ldpc.specs.Calls.{countOf, countRefusals};
 ghost use Rattle.ldpc.specs.Code174.{checks};
 ghost use Rattle.ldpc.specs.Tables.{nm, numRows, mn};
 
-mod tables;
+pub mod tables;
 
 // The answer of a call that counts unsatisfied checks.
 pub enum Count {
