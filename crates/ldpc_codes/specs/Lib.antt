@@ -1,3 +1,2 @@
 pub mod Staircase
 pub mod Codes
-pub mod Calls
