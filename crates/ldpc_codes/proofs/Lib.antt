@@ -2,3 +2,5 @@ pub mod Threes
 pub mod N512R12
 pub mod N576R23
 pub mod N512R34
+pub mod Codewords
+pub mod Laid

@@ -9,12 +9,12 @@ use Rattle.construction.specs.Quick.{marked, markedIf, markedBy, marksOf, lessO
 use Rattle.construction.specs.Codes.{n512r12, messageRows}
 use Rattle.construction.proofs.Agree.{agree}
 use Rattle.tanner.specs.Flat.{joined, ends, offsets, places, edgesFrom, bitEdges}
-use Rattle.ldpc_codes.specs.Staircase.{taps, parityEntries, checkRow, rowsFrom}
+use Rattle.ldpc_codes.specs.Staircase.{taps, parityEntries, checkRow, checkRows}
 use Rattle.ldpc_codes.specs.Codes.{columns, checks}
 use Rattle.ldpc_codes.proofs.Threes.{threes}
 
-unfoldable pub rows : List ℕ
-rows =
+unfoldable pub rows0 : List ℕ
+rows0 =
     41 ∷ 100 ∷ 196 ∷ 58 ∷ 104 ∷ 151 ∷ 14 ∷ 86 ∷ 124 ∷ 188 ∷ 192 ∷ 223 ∷ 126 ∷ 134 ∷ 173 ∷ 69 ∷ 132 ∷ 174 ∷ 130 ∷ 221 ∷ 237 ∷ 90 ∷ 127 ∷ 172 ∷
     117 ∷ 141 ∷ 220 ∷ 80 ∷ 201 ∷ 224 ∷ 61 ∷ 152 ∷ 210 ∷ 71 ∷ 75 ∷ 79 ∷ 12 ∷ 13 ∷ 181 ∷ 107 ∷ 146 ∷ 187 ∷ 21 ∷ 101 ∷ 128 ∷ 54 ∷ 116 ∷ 179 ∷ 25 ∷
     32 ∷ 244 ∷ 180 ∷ 185 ∷ 222 ∷ 15 ∷ 89 ∷ 168 ∷ 28 ∷ 56 ∷ 165 ∷ 92 ∷ 94 ∷ 197 ∷ 57 ∷ 119 ∷ 167 ∷ 93 ∷ 147 ∷ 176 ∷ 4 ∷ 42 ∷ 133 ∷ 5 ∷ 39 ∷ 120 ∷
@@ -47,8 +47,8 @@ rows =
     ∷ 0 ∷ 105 ∷ 240 ∷ 16 ∷ 151 ∷ 154 ∷ 88 ∷ 242 ∷ 243 ∷ 155 ∷ 207 ∷ 227 ∷ 1 ∷ 56 ∷ 194 ∷ 17 ∷ 64 ∷ 159 ∷ 63 ∷ 67 ∷ 69 ∷ 73 ∷ 160 ∷ 183 ∷ 74 ∷
     161 ∷ 195 ∷ 184 ∷ 185 ∷ 197 ∷ 79 ∷ 200 ∷ 201 ∷ 81 ∷ 84 ∷ 208 ∷ 85 ∷ 86 ∷ 89 ∷ []
 
-unfoldable pub checkStarts : List ℕ
-checkStarts =
+unfoldable pub checkStarts0 : List ℕ
+checkStarts0 =
     0 ∷ 4 ∷ 9 ∷ 14 ∷ 19 ∷ 24 ∷ 29 ∷ 34 ∷ 39 ∷ 44 ∷ 49 ∷ 54 ∷ 59 ∷ 64 ∷ 69 ∷ 74 ∷ 79 ∷ 84 ∷ 89 ∷ 94 ∷ 99 ∷ 104 ∷ 109 ∷ 114 ∷ 119 ∷ 124 ∷ 129 ∷
     134 ∷ 139 ∷ 144 ∷ 149 ∷ 154 ∷ 159 ∷ 164 ∷ 169 ∷ 174 ∷ 179 ∷ 184 ∷ 189 ∷ 194 ∷ 199 ∷ 204 ∷ 209 ∷ 214 ∷ 219 ∷ 224 ∷ 229 ∷ 234 ∷ 239 ∷ 244 ∷
     249 ∷ 254 ∷ 259 ∷ 264 ∷ 269 ∷ 274 ∷ 279 ∷ 284 ∷ 289 ∷ 294 ∷ 299 ∷ 304 ∷ 309 ∷ 314 ∷ 319 ∷ 324 ∷ 329 ∷ 334 ∷ 339 ∷ 344 ∷ 349 ∷ 354 ∷ 359 ∷
@@ -62,8 +62,8 @@ checkStarts =
     1149 ∷ 1154 ∷ 1159 ∷ 1164 ∷ 1169 ∷ 1174 ∷ 1179 ∷ 1184 ∷ 1189 ∷ 1194 ∷ 1199 ∷ 1204 ∷ 1209 ∷ 1214 ∷ 1219 ∷ 1224 ∷ 1229 ∷ 1234 ∷ 1239 ∷ 1244 ∷
     1249 ∷ 1254 ∷ 1259 ∷ 1264 ∷ 1269 ∷ 1274 ∷ 1279 ∷ []
 
-unfoldable pub checkBits : List ℕ
-checkBits =
+unfoldable pub checkBits0 : List ℕ
+checkBits0 =
     85 ∷ 131 ∷ 243 ∷ 256 ∷ 45 ∷ 89 ∷ 247 ∷ 257 ∷ 256 ∷ 48 ∷ 120 ∷ 177 ∷ 258 ∷ 257 ∷ 40 ∷ 154 ∷ 195 ∷ 259 ∷ 258 ∷ 23 ∷ 114 ∷ 238 ∷ 260 ∷ 259 ∷ 24
     ∷ 115 ∷ 210 ∷ 261 ∷ 260 ∷ 42 ∷ 123 ∷ 183 ∷ 262 ∷ 261 ∷ 50 ∷ 88 ∷ 191 ∷ 263 ∷ 262 ∷ 57 ∷ 97 ∷ 206 ∷ 264 ∷ 263 ∷ 56 ∷ 98 ∷ 214 ∷ 265 ∷ 264 ∷
     63 ∷ 103 ∷ 221 ∷ 266 ∷ 265 ∷ 71 ∷ 124 ∷ 179 ∷ 267 ∷ 266 ∷ 12 ∷ 142 ∷ 184 ∷ 268 ∷ 267 ∷ 12 ∷ 146 ∷ 195 ∷ 269 ∷ 268 ∷ 2 ∷ 157 ∷ 217 ∷ 270 ∷
@@ -118,8 +118,8 @@ checkBits =
     132 ∷ 194 ∷ 504 ∷ 503 ∷ 47 ∷ 128 ∷ 172 ∷ 505 ∷ 504 ∷ 35 ∷ 169 ∷ 203 ∷ 506 ∷ 505 ∷ 53 ∷ 169 ∷ 220 ∷ 507 ∷ 506 ∷ 34 ∷ 158 ∷ 228 ∷ 508 ∷ 507 ∷
     52 ∷ 170 ∷ 237 ∷ 509 ∷ 508 ∷ 27 ∷ 170 ∷ 240 ∷ 510 ∷ 509 ∷ 84 ∷ 96 ∷ 203 ∷ 511 ∷ 510 ∷ []
 
-unfoldable pub edgeStarts : List ℕ
-edgeStarts =
+unfoldable pub edgeStarts0 : List ℕ
+edgeStarts0 =
     0 ∷ 3 ∷ 6 ∷ 9 ∷ 12 ∷ 15 ∷ 18 ∷ 21 ∷ 24 ∷ 27 ∷ 30 ∷ 33 ∷ 36 ∷ 39 ∷ 42 ∷ 45 ∷ 48 ∷ 51 ∷ 54 ∷ 57 ∷ 60 ∷ 63 ∷ 66 ∷ 69 ∷ 72 ∷ 75 ∷ 78 ∷ 81 ∷ 84 ∷
     87 ∷ 90 ∷ 93 ∷ 96 ∷ 99 ∷ 102 ∷ 105 ∷ 108 ∷ 111 ∷ 114 ∷ 117 ∷ 120 ∷ 123 ∷ 126 ∷ 129 ∷ 132 ∷ 135 ∷ 138 ∷ 141 ∷ 144 ∷ 147 ∷ 150 ∷ 153 ∷ 156 ∷
     159 ∷ 162 ∷ 165 ∷ 168 ∷ 171 ∷ 174 ∷ 177 ∷ 180 ∷ 183 ∷ 186 ∷ 189 ∷ 192 ∷ 195 ∷ 198 ∷ 201 ∷ 204 ∷ 207 ∷ 210 ∷ 213 ∷ 216 ∷ 219 ∷ 222 ∷ 225 ∷
@@ -144,8 +144,8 @@ edgeStarts =
     1206 ∷ 1208 ∷ 1210 ∷ 1212 ∷ 1214 ∷ 1216 ∷ 1218 ∷ 1220 ∷ 1222 ∷ 1224 ∷ 1226 ∷ 1228 ∷ 1230 ∷ 1232 ∷ 1234 ∷ 1236 ∷ 1238 ∷ 1240 ∷ 1242 ∷ 1244 ∷
     1246 ∷ 1248 ∷ 1250 ∷ 1252 ∷ 1254 ∷ 1256 ∷ 1258 ∷ 1260 ∷ 1262 ∷ 1264 ∷ 1266 ∷ 1268 ∷ 1270 ∷ 1272 ∷ 1274 ∷ 1276 ∷ 1278 ∷ 1279 ∷ []
 
-unfoldable pub edges : List ℕ
-edges =
+unfoldable pub edges0 : List ℕ
+edges0 =
     204 ∷ 499 ∷ 979 ∷ 289 ∷ 519 ∷ 754 ∷ 69 ∷ 429 ∷ 619 ∷ 939 ∷ 959 ∷ 1114 ∷ 629 ∷ 669 ∷ 864 ∷ 344 ∷ 659 ∷ 869 ∷ 649 ∷ 1104 ∷ 1184 ∷ 449 ∷ 634 ∷
     859 ∷ 584 ∷ 704 ∷ 1099 ∷ 399 ∷ 1004 ∷ 1119 ∷ 304 ∷ 759 ∷ 1049 ∷ 354 ∷ 374 ∷ 394 ∷ 59 ∷ 64 ∷ 904 ∷ 534 ∷ 729 ∷ 934 ∷ 104 ∷ 504 ∷ 639 ∷ 269 ∷
     579 ∷ 894 ∷ 124 ∷ 159 ∷ 1219 ∷ 899 ∷ 924 ∷ 1109 ∷ 74 ∷ 444 ∷ 839 ∷ 139 ∷ 279 ∷ 824 ∷ 459 ∷ 469 ∷ 984 ∷ 284 ∷ 594 ∷ 834 ∷ 464 ∷ 734 ∷ 879 ∷
@@ -205,40 +205,40 @@ edges =
     1267 ∷ 1273 ∷ 1272 ∷ 1278 ∷ 1277 ∷ []
 
 -- the construction, computed
-made-right : made 256 256 0x4c44504335313200 .columns ≡ reverse (threes rows)
-unfolding draw xor mixed holds settled sorted insert upFrom firstOutside marked markedIf markedBy marksOf lessOf met scan foundIn quickSearch quickPick loaded quickFinished finished quickOnePick quickPicks quickColumn quickColumns quick rows threes
-made-right = sym (ap (λ (g : Made). g .columns) (agree 256 256 0x4c44504335313200 (omega arith))) ∙ refl
+made-right0 : made 256 256 0x4c44504335313200 .columns ≡ reverse (threes rows0)
+unfolding draw xor mixed holds settled sorted insert upFrom firstOutside marked markedIf markedBy marksOf lessOf met scan foundIn quickSearch quickPick loaded quickFinished finished quickOnePick quickPicks quickColumn quickColumns quick rows0 threes
+made-right0 = sym (ap (λ (g : Made). g .columns) (agree 256 256 0x4c44504335313200 (omega arith))) ∙ refl
 
-pub rows-right : rows ≡ messageRows n512r12
-unfolding rowsOf laidBefore rows threes
-rows-right = sym (ap (λ (cs : List (List ℕ)). laidBefore cs []) made-right)
+pub rows-right0 : rows0 ≡ messageRows n512r12
+unfolding rowsOf laidBefore rows0 threes
+rows-right0 = sym (ap (λ (cs : List (List ℕ)). laidBefore cs []) made-right0)
 
-columns-right : columns n512r12 ≡ threes rows
-unfolding columns rows threes
-columns-right = ap reverse made-right
+columns-right0 : columns n512r12 ≡ threes rows0
+unfolding columns rows0 threes
+columns-right0 = ap reverse made-right0
 
-checks-right : checks n512r12 ≡ rowsFrom 256 (threes rows) 0 256
+checks-right0 : checks n512r12 ≡ checkRows 256 (threes rows0) 0 256
 unfolding checks
-checks-right = rw columns-right
+checks-right0 = rw columns-right0
 
-pub check-bits-right : checkBits ≡ joined (checks n512r12)
-unfolding checkBits joined rowsFrom checkRow taps parityEntries holds rows threes
-check-bits-right = sym (ap joined checks-right)
+pub check-bits-right0 : checkBits0 ≡ joined (checks n512r12)
+unfolding checkBits0 joined checkRows checkRow taps parityEntries holds rows0 threes
+check-bits-right0 = sym (ap joined checks-right0)
 
-pub check-starts-right : checkStarts ≡ offsets (checks n512r12)
-unfolding checkStarts ends rowsFrom checkRow taps parityEntries holds rows threes
-check-starts-right = sym (ap offsets checks-right)
+pub check-starts-right0 : checkStarts0 ≡ offsets (checks n512r12)
+unfolding checkStarts0 ends checkRows checkRow taps parityEntries holds rows0 threes
+check-starts-right0 = sym (ap offsets checks-right0)
 
-edges-computed : edges ≡ joined (edgesFrom 0 512 checkBits)
-unfolding edges checkBits joined edgesFrom places
-edges-computed = refl
+edges-computed0 : edges0 ≡ joined (edgesFrom 0 512 checkBits0)
+unfolding edges0 checkBits0 joined edgesFrom places
+edges-computed0 = refl
 
-pub edges-right : edges ≡ joined (bitEdges 512 (checks n512r12))
-edges-right = edges-computed ∙ ap (λ (flat : List ℕ). joined (edgesFrom 0 512 flat)) check-bits-right
+pub edges-right0 : edges0 ≡ joined (bitEdges 512 (checks n512r12))
+edges-right0 = edges-computed0 ∙ ap (λ (flat : List ℕ). joined (edgesFrom 0 512 flat)) check-bits-right0
 
-edge-starts-computed : edgeStarts ≡ offsets (edgesFrom 0 512 checkBits)
-unfolding edgeStarts checkBits ends edgesFrom places
-edge-starts-computed = refl
+edge-starts-computed0 : edgeStarts0 ≡ offsets (edgesFrom 0 512 checkBits0)
+unfolding edgeStarts0 checkBits0 ends edgesFrom places
+edge-starts-computed0 = refl
 
-pub edge-starts-right : edgeStarts ≡ offsets (bitEdges 512 (checks n512r12))
-edge-starts-right = edge-starts-computed ∙ ap (λ (flat : List ℕ). offsets (edgesFrom 0 512 flat)) check-bits-right
+pub edge-starts-right0 : edgeStarts0 ≡ offsets (bitEdges 512 (checks n512r12))
+edge-starts-right0 = edge-starts-computed0 ∙ ap (λ (flat : List ℕ). offsets (edgesFrom 0 512 flat)) check-bits-right0

@@ -9,12 +9,12 @@ use Rattle.construction.specs.Quick.{marked, markedIf, markedBy, marksOf, lessO
 use Rattle.construction.specs.Codes.{n512r34, messageRows}
 use Rattle.construction.proofs.Agree.{agree}
 use Rattle.tanner.specs.Flat.{joined, ends, offsets, places, edgesFrom, bitEdges}
-use Rattle.ldpc_codes.specs.Staircase.{taps, parityEntries, checkRow, rowsFrom}
+use Rattle.ldpc_codes.specs.Staircase.{taps, parityEntries, checkRow, checkRows}
 use Rattle.ldpc_codes.specs.Codes.{columns, checks}
 use Rattle.ldpc_codes.proofs.Threes.{threes}
 
-unfoldable pub rows : List ℕ
-rows =
+unfoldable pub rows2 : List ℕ
+rows2 =
     59 ∷ 71 ∷ 102 ∷ 57 ∷ 74 ∷ 85 ∷ 4 ∷ 34 ∷ 113 ∷ 18 ∷ 64 ∷ 69 ∷ 2 ∷ 23 ∷ 65 ∷ 75 ∷ 112 ∷ 114 ∷ 72 ∷ 96 ∷ 107 ∷ 77 ∷ 80 ∷ 90 ∷ 1 ∷ 13 ∷ 19 ∷ 10
     ∷ 91 ∷ 97 ∷ 60 ∷ 93 ∷ 106 ∷ 37 ∷ 88 ∷ 92 ∷ 95 ∷ 98 ∷ 119 ∷ 110 ∷ 122 ∷ 127 ∷ 26 ∷ 73 ∷ 86 ∷ 41 ∷ 84 ∷ 115 ∷ 32 ∷ 70 ∷ 83 ∷ 66 ∷ 67 ∷ 104 ∷
     35 ∷ 38 ∷ 120 ∷ 82 ∷ 103 ∷ 126 ∷ 5 ∷ 58 ∷ 94 ∷ 39 ∷ 68 ∷ 99 ∷ 33 ∷ 76 ∷ 87 ∷ 61 ∷ 105 ∷ 108 ∷ 36 ∷ 43 ∷ 100 ∷ 78 ∷ 101 ∷ 121 ∷ 0 ∷ 79 ∷ 109
@@ -59,8 +59,8 @@ rows =
     5 ∷ 23 ∷ 37 ∷ 99 ∷ 103 ∷ 117 ∷ 6 ∷ 57 ∷ 63 ∷ 8 ∷ 106 ∷ 113 ∷ 26 ∷ 108 ∷ 118 ∷ 4 ∷ 38 ∷ 62 ∷ 64 ∷ 89 ∷ 109 ∷ 65 ∷ 67 ∷ 111 ∷ 42 ∷ 43 ∷ 124 ∷
     44 ∷ 70 ∷ 76 ∷ 45 ∷ 77 ∷ 78 ∷ 79 ∷ 80 ∷ 84 ∷ []
 
-unfoldable pub checkStarts : List ℕ
-checkStarts =
+unfoldable pub checkStarts2 : List ℕ
+checkStarts2 =
     0 ∷ 10 ∷ 21 ∷ 32 ∷ 43 ∷ 54 ∷ 65 ∷ 76 ∷ 87 ∷ 98 ∷ 109 ∷ 120 ∷ 131 ∷ 142 ∷ 153 ∷ 164 ∷ 175 ∷ 186 ∷ 197 ∷ 208 ∷ 219 ∷ 230 ∷ 241 ∷ 252 ∷ 263 ∷
     274 ∷ 285 ∷ 296 ∷ 307 ∷ 318 ∷ 329 ∷ 340 ∷ 351 ∷ 362 ∷ 373 ∷ 384 ∷ 395 ∷ 406 ∷ 417 ∷ 428 ∷ 439 ∷ 450 ∷ 461 ∷ 472 ∷ 483 ∷ 494 ∷ 505 ∷ 516 ∷
     527 ∷ 538 ∷ 549 ∷ 560 ∷ 571 ∷ 582 ∷ 593 ∷ 604 ∷ 615 ∷ 626 ∷ 637 ∷ 648 ∷ 659 ∷ 670 ∷ 681 ∷ 692 ∷ 703 ∷ 714 ∷ 725 ∷ 736 ∷ 747 ∷ 758 ∷ 769 ∷
@@ -68,8 +68,8 @@ checkStarts =
     1033 ∷ 1044 ∷ 1055 ∷ 1066 ∷ 1077 ∷ 1088 ∷ 1099 ∷ 1110 ∷ 1121 ∷ 1132 ∷ 1143 ∷ 1154 ∷ 1165 ∷ 1176 ∷ 1187 ∷ 1198 ∷ 1209 ∷ 1220 ∷ 1231 ∷ 1242 ∷
     1253 ∷ 1264 ∷ 1275 ∷ 1286 ∷ 1297 ∷ 1308 ∷ 1319 ∷ 1330 ∷ 1341 ∷ 1352 ∷ 1363 ∷ 1374 ∷ 1385 ∷ 1396 ∷ 1407 ∷ []
 
-unfoldable pub checkBits : List ℕ
-checkBits =
+unfoldable pub checkBits2 : List ℕ
+checkBits2 =
     26 ∷ 44 ∷ 99 ∷ 167 ∷ 172 ∷ 219 ∷ 274 ∷ 313 ∷ 346 ∷ 384 ∷ 8 ∷ 47 ∷ 113 ∷ 168 ∷ 176 ∷ 226 ∷ 266 ∷ 322 ∷ 349 ∷ 385 ∷ 384 ∷ 4 ∷ 65 ∷ 114 ∷ 170 ∷
     177 ∷ 213 ∷ 263 ∷ 326 ∷ 363 ∷ 386 ∷ 385 ∷ 30 ∷ 72 ∷ 108 ∷ 170 ∷ 191 ∷ 234 ∷ 268 ∷ 300 ∷ 365 ∷ 387 ∷ 386 ∷ 2 ∷ 71 ∷ 90 ∷ 130 ∷ 179 ∷ 237 ∷
     256 ∷ 315 ∷ 377 ∷ 388 ∷ 387 ∷ 20 ∷ 68 ∷ 93 ∷ 133 ∷ 184 ∷ 226 ∷ 269 ∷ 325 ∷ 372 ∷ 389 ∷ 388 ∷ 33 ∷ 84 ∷ 94 ∷ 130 ∷ 195 ∷ 238 ∷ 265 ∷ 326 ∷
@@ -130,8 +130,8 @@ checkBits =
     258 ∷ 314 ∷ 368 ∷ 509 ∷ 508 ∷ 19 ∷ 43 ∷ 87 ∷ 143 ∷ 178 ∷ 253 ∷ 264 ∷ 315 ∷ 361 ∷ 510 ∷ 509 ∷ 13 ∷ 56 ∷ 104 ∷ 154 ∷ 187 ∷ 214 ∷ 271 ∷ 327 ∷
     349 ∷ 511 ∷ 510 ∷ []
 
-unfoldable pub edgeStarts : List ℕ
-edgeStarts =
+unfoldable pub edgeStarts2 : List ℕ
+edgeStarts2 =
     0 ∷ 3 ∷ 6 ∷ 9 ∷ 12 ∷ 15 ∷ 18 ∷ 21 ∷ 24 ∷ 27 ∷ 30 ∷ 33 ∷ 36 ∷ 39 ∷ 42 ∷ 45 ∷ 48 ∷ 51 ∷ 54 ∷ 57 ∷ 60 ∷ 63 ∷ 66 ∷ 69 ∷ 72 ∷ 75 ∷ 78 ∷ 81 ∷ 84 ∷
     87 ∷ 90 ∷ 93 ∷ 96 ∷ 99 ∷ 102 ∷ 105 ∷ 108 ∷ 111 ∷ 114 ∷ 117 ∷ 120 ∷ 123 ∷ 126 ∷ 129 ∷ 132 ∷ 135 ∷ 138 ∷ 141 ∷ 144 ∷ 147 ∷ 150 ∷ 153 ∷ 156 ∷
     159 ∷ 162 ∷ 165 ∷ 168 ∷ 171 ∷ 174 ∷ 177 ∷ 180 ∷ 183 ∷ 186 ∷ 189 ∷ 192 ∷ 195 ∷ 198 ∷ 201 ∷ 204 ∷ 207 ∷ 210 ∷ 213 ∷ 216 ∷ 219 ∷ 222 ∷ 225 ∷
@@ -157,8 +157,8 @@ edgeStarts =
     ∷ 1364 ∷ 1366 ∷ 1368 ∷ 1370 ∷ 1372 ∷ 1374 ∷ 1376 ∷ 1378 ∷ 1380 ∷ 1382 ∷ 1384 ∷ 1386 ∷ 1388 ∷ 1390 ∷ 1392 ∷ 1394 ∷ 1396 ∷ 1398 ∷ 1400 ∷ 1402
     ∷ 1404 ∷ 1406 ∷ 1407 ∷ []
 
-unfoldable pub edges : List ℕ
-edges =
+unfoldable pub edges2 : List ℕ
+edges2 =
     648 ∷ 780 ∷ 1121 ∷ 626 ∷ 813 ∷ 934 ∷ 43 ∷ 373 ∷ 1242 ∷ 197 ∷ 703 ∷ 758 ∷ 21 ∷ 252 ∷ 714 ∷ 824 ∷ 1231 ∷ 1253 ∷ 791 ∷ 1055 ∷ 1176 ∷ 846 ∷ 879
     ∷ 989 ∷ 10 ∷ 142 ∷ 208 ∷ 109 ∷ 1000 ∷ 1066 ∷ 659 ∷ 1022 ∷ 1165 ∷ 406 ∷ 967 ∷ 1011 ∷ 1044 ∷ 1077 ∷ 1308 ∷ 1209 ∷ 1341 ∷ 1396 ∷ 285 ∷ 802 ∷
     945 ∷ 450 ∷ 923 ∷ 1264 ∷ 351 ∷ 769 ∷ 912 ∷ 725 ∷ 736 ∷ 1143 ∷ 384 ∷ 417 ∷ 1319 ∷ 901 ∷ 1132 ∷ 1385 ∷ 54 ∷ 637 ∷ 1033 ∷ 428 ∷ 747 ∷ 1088 ∷
@@ -224,40 +224,40 @@ edges =
     1339 ∷ 1351 ∷ 1350 ∷ 1362 ∷ 1361 ∷ 1373 ∷ 1372 ∷ 1384 ∷ 1383 ∷ 1395 ∷ 1394 ∷ 1406 ∷ 1405 ∷ []
 
 -- the construction, computed
-made-right : made 384 128 0x4c44504335313202 .columns ≡ reverse (threes rows)
-unfolding draw xor mixed holds settled sorted insert upFrom firstOutside marked markedIf markedBy marksOf lessOf met scan foundIn quickSearch quickPick loaded quickFinished finished quickOnePick quickPicks quickColumn quickColumns quick rows threes
-made-right = sym (ap (λ (g : Made). g .columns) (agree 384 128 0x4c44504335313202 (omega arith))) ∙ refl
+made-right2 : made 384 128 0x4c44504335313202 .columns ≡ reverse (threes rows2)
+unfolding draw xor mixed holds settled sorted insert upFrom firstOutside marked markedIf markedBy marksOf lessOf met scan foundIn quickSearch quickPick loaded quickFinished finished quickOnePick quickPicks quickColumn quickColumns quick rows2 threes
+made-right2 = sym (ap (λ (g : Made). g .columns) (agree 384 128 0x4c44504335313202 (omega arith))) ∙ refl
 
-pub rows-right : rows ≡ messageRows n512r34
-unfolding rowsOf laidBefore rows threes
-rows-right = sym (ap (λ (cs : List (List ℕ)). laidBefore cs []) made-right)
+pub rows-right2 : rows2 ≡ messageRows n512r34
+unfolding rowsOf laidBefore rows2 threes
+rows-right2 = sym (ap (λ (cs : List (List ℕ)). laidBefore cs []) made-right2)
 
-columns-right : columns n512r34 ≡ threes rows
-unfolding columns rows threes
-columns-right = ap reverse made-right
+columns-right2 : columns n512r34 ≡ threes rows2
+unfolding columns rows2 threes
+columns-right2 = ap reverse made-right2
 
-checks-right : checks n512r34 ≡ rowsFrom 384 (threes rows) 0 128
+checks-right2 : checks n512r34 ≡ checkRows 384 (threes rows2) 0 128
 unfolding checks
-checks-right = rw columns-right
+checks-right2 = rw columns-right2
 
-pub check-bits-right : checkBits ≡ joined (checks n512r34)
-unfolding checkBits joined rowsFrom checkRow taps parityEntries holds rows threes
-check-bits-right = sym (ap joined checks-right)
+pub check-bits-right2 : checkBits2 ≡ joined (checks n512r34)
+unfolding checkBits2 joined checkRows checkRow taps parityEntries holds rows2 threes
+check-bits-right2 = sym (ap joined checks-right2)
 
-pub check-starts-right : checkStarts ≡ offsets (checks n512r34)
-unfolding checkStarts ends rowsFrom checkRow taps parityEntries holds rows threes
-check-starts-right = sym (ap offsets checks-right)
+pub check-starts-right2 : checkStarts2 ≡ offsets (checks n512r34)
+unfolding checkStarts2 ends checkRows checkRow taps parityEntries holds rows2 threes
+check-starts-right2 = sym (ap offsets checks-right2)
 
-edges-computed : edges ≡ joined (edgesFrom 0 512 checkBits)
-unfolding edges checkBits joined edgesFrom places
-edges-computed = refl
+edges-computed2 : edges2 ≡ joined (edgesFrom 0 512 checkBits2)
+unfolding edges2 checkBits2 joined edgesFrom places
+edges-computed2 = refl
 
-pub edges-right : edges ≡ joined (bitEdges 512 (checks n512r34))
-edges-right = edges-computed ∙ ap (λ (flat : List ℕ). joined (edgesFrom 0 512 flat)) check-bits-right
+pub edges-right2 : edges2 ≡ joined (bitEdges 512 (checks n512r34))
+edges-right2 = edges-computed2 ∙ ap (λ (flat : List ℕ). joined (edgesFrom 0 512 flat)) check-bits-right2
 
-edge-starts-computed : edgeStarts ≡ offsets (edgesFrom 0 512 checkBits)
-unfolding edgeStarts checkBits ends edgesFrom places
-edge-starts-computed = refl
+edge-starts-computed2 : edgeStarts2 ≡ offsets (edgesFrom 0 512 checkBits2)
+unfolding edgeStarts2 checkBits2 ends edgesFrom places
+edge-starts-computed2 = refl
 
-pub edge-starts-right : edgeStarts ≡ offsets (bitEdges 512 (checks n512r34))
-edge-starts-right = edge-starts-computed ∙ ap (λ (flat : List ℕ). offsets (edgesFrom 0 512 flat)) check-bits-right
+pub edge-starts-right2 : edgeStarts2 ≡ offsets (bitEdges 512 (checks n512r34))
+edge-starts-right2 = edge-starts-computed2 ∙ ap (λ (flat : List ℕ). offsets (edgesFrom 0 512 flat)) check-bits-right2

@@ -9,12 +9,12 @@ use Rattle.construction.specs.Quick.{marked, markedIf, markedBy, marksOf, lessO
 use Rattle.construction.specs.Codes.{n576r23, messageRows}
 use Rattle.construction.proofs.Agree.{agree}
 use Rattle.tanner.specs.Flat.{joined, ends, offsets, places, edgesFrom, bitEdges}
-use Rattle.ldpc_codes.specs.Staircase.{taps, parityEntries, checkRow, rowsFrom}
+use Rattle.ldpc_codes.specs.Staircase.{taps, parityEntries, checkRow, checkRows}
 use Rattle.ldpc_codes.specs.Codes.{columns, checks}
 use Rattle.ldpc_codes.proofs.Threes.{threes}
 
-unfoldable pub rows : List ℕ
-rows =
+unfoldable pub rows1 : List ℕ
+rows1 =
     37 ∷ 64 ∷ 133 ∷ 13 ∷ 123 ∷ 178 ∷ 49 ∷ 167 ∷ 177 ∷ 46 ∷ 59 ∷ 181 ∷ 11 ∷ 93 ∷ 98 ∷ 33 ∷ 150 ∷ 180 ∷ 2 ∷ 158 ∷ 173 ∷ 71 ∷ 117 ∷ 120 ∷ 17 ∷ 79 ∷
     182 ∷ 44 ∷ 126 ∷ 186 ∷ 5 ∷ 86 ∷ 131 ∷ 91 ∷ 114 ∷ 125 ∷ 39 ∷ 52 ∷ 72 ∷ 34 ∷ 80 ∷ 121 ∷ 16 ∷ 66 ∷ 143 ∷ 50 ∷ 113 ∷ 164 ∷ 42 ∷ 155 ∷ 174 ∷ 18 ∷
     51 ∷ 179 ∷ 4 ∷ 43 ∷ 154 ∷ 83 ∷ 112 ∷ 134 ∷ 12 ∷ 108 ∷ 116 ∷ 41 ∷ 70 ∷ 73 ∷ 35 ∷ 67 ∷ 103 ∷ 7 ∷ 20 ∷ 36 ∷ 183 ∷ 184 ∷ 187 ∷ 45 ∷ 135 ∷ 169 ∷
@@ -61,8 +61,8 @@ rows =
     116 ∷ 164 ∷ 27 ∷ 165 ∷ 168 ∷ 87 ∷ 169 ∷ 170 ∷ 93 ∷ 174 ∷ 175 ∷ 35 ∷ 118 ∷ 177 ∷ 94 ∷ 117 ∷ 182 ∷ 97 ∷ 99 ∷ 105 ∷ 46 ∷ 122 ∷ 183 ∷ 106 ∷ 181
     ∷ 185 ∷ 4 ∷ 187 ∷ 190 ∷ 2 ∷ 3 ∷ 28 ∷ 30 ∷ 31 ∷ 36 ∷ 32 ∷ 37 ∷ 39 ∷ 40 ∷ 41 ∷ 42 ∷ 43 ∷ 44 ∷ 48 ∷ []
 
-unfoldable pub checkStarts : List ℕ
-checkStarts =
+unfoldable pub checkStarts1 : List ℕ
+checkStarts1 =
     0 ∷ 7 ∷ 15 ∷ 23 ∷ 31 ∷ 39 ∷ 47 ∷ 55 ∷ 63 ∷ 71 ∷ 79 ∷ 87 ∷ 95 ∷ 103 ∷ 111 ∷ 119 ∷ 127 ∷ 135 ∷ 143 ∷ 151 ∷ 159 ∷ 167 ∷ 175 ∷ 183 ∷ 191 ∷ 199 ∷
     207 ∷ 215 ∷ 223 ∷ 231 ∷ 239 ∷ 247 ∷ 255 ∷ 263 ∷ 271 ∷ 279 ∷ 287 ∷ 295 ∷ 303 ∷ 311 ∷ 319 ∷ 327 ∷ 335 ∷ 343 ∷ 351 ∷ 359 ∷ 367 ∷ 375 ∷ 383 ∷
     391 ∷ 399 ∷ 407 ∷ 415 ∷ 423 ∷ 431 ∷ 439 ∷ 447 ∷ 455 ∷ 463 ∷ 471 ∷ 479 ∷ 487 ∷ 495 ∷ 503 ∷ 511 ∷ 519 ∷ 527 ∷ 535 ∷ 543 ∷ 551 ∷ 559 ∷ 567 ∷
@@ -73,8 +73,8 @@ checkStarts =
     1271 ∷ 1279 ∷ 1287 ∷ 1295 ∷ 1303 ∷ 1311 ∷ 1319 ∷ 1327 ∷ 1335 ∷ 1343 ∷ 1351 ∷ 1359 ∷ 1367 ∷ 1375 ∷ 1383 ∷ 1391 ∷ 1399 ∷ 1407 ∷ 1415 ∷ 1423 ∷
     1431 ∷ 1439 ∷ 1447 ∷ 1455 ∷ 1463 ∷ 1471 ∷ 1479 ∷ 1487 ∷ 1495 ∷ 1503 ∷ 1511 ∷ 1519 ∷ 1527 ∷ 1535 ∷ []
 
-unfoldable pub checkBits : List ℕ
-checkBits =
+unfoldable pub checkBits1 : List ℕ
+checkBits1 =
     56 ∷ 93 ∷ 157 ∷ 226 ∷ 304 ∷ 322 ∷ 384 ∷ 58 ∷ 117 ∷ 164 ∷ 228 ∷ 305 ∷ 354 ∷ 385 ∷ 384 ∷ 6 ∷ 84 ∷ 165 ∷ 250 ∷ 311 ∷ 379 ∷ 386 ∷ 385 ∷ 42 ∷ 98
     ∷ 142 ∷ 248 ∷ 276 ∷ 379 ∷ 387 ∷ 386 ∷ 18 ∷ 82 ∷ 136 ∷ 240 ∷ 312 ∷ 378 ∷ 388 ∷ 387 ∷ 10 ∷ 101 ∷ 160 ∷ 253 ∷ 304 ∷ 345 ∷ 389 ∷ 388 ∷ 48 ∷ 89 ∷
     161 ∷ 238 ∷ 283 ∷ 321 ∷ 390 ∷ 389 ∷ 23 ∷ 105 ∷ 174 ∷ 254 ∷ 281 ∷ 322 ∷ 391 ∷ 390 ∷ 35 ∷ 76 ∷ 129 ∷ 201 ∷ 273 ∷ 335 ∷ 392 ∷ 391 ∷ 48 ∷ 76 ∷
@@ -140,8 +140,8 @@ checkBits =
     569 ∷ 24 ∷ 71 ∷ 159 ∷ 250 ∷ 301 ∷ 378 ∷ 571 ∷ 570 ∷ 38 ∷ 109 ∷ 138 ∷ 222 ∷ 268 ∷ 325 ∷ 572 ∷ 571 ∷ 34 ∷ 112 ∷ 160 ∷ 207 ∷ 272 ∷ 337 ∷ 573 ∷
     572 ∷ 42 ∷ 114 ∷ 128 ∷ 253 ∷ 289 ∷ 378 ∷ 574 ∷ 573 ∷ 46 ∷ 115 ∷ 152 ∷ 246 ∷ 303 ∷ 321 ∷ 575 ∷ 574 ∷ []
 
-unfoldable pub edgeStarts : List ℕ
-edgeStarts =
+unfoldable pub edgeStarts1 : List ℕ
+edgeStarts1 =
     0 ∷ 3 ∷ 6 ∷ 9 ∷ 12 ∷ 15 ∷ 18 ∷ 21 ∷ 24 ∷ 27 ∷ 30 ∷ 33 ∷ 36 ∷ 39 ∷ 42 ∷ 45 ∷ 48 ∷ 51 ∷ 54 ∷ 57 ∷ 60 ∷ 63 ∷ 66 ∷ 69 ∷ 72 ∷ 75 ∷ 78 ∷ 81 ∷ 84 ∷
     87 ∷ 90 ∷ 93 ∷ 96 ∷ 99 ∷ 102 ∷ 105 ∷ 108 ∷ 111 ∷ 114 ∷ 117 ∷ 120 ∷ 123 ∷ 126 ∷ 129 ∷ 132 ∷ 135 ∷ 138 ∷ 141 ∷ 144 ∷ 147 ∷ 150 ∷ 153 ∷ 156 ∷
     159 ∷ 162 ∷ 165 ∷ 168 ∷ 171 ∷ 174 ∷ 177 ∷ 180 ∷ 183 ∷ 186 ∷ 189 ∷ 192 ∷ 195 ∷ 198 ∷ 201 ∷ 204 ∷ 207 ∷ 210 ∷ 213 ∷ 216 ∷ 219 ∷ 222 ∷ 225 ∷
@@ -170,8 +170,8 @@ edgeStarts =
     ∷ 1484 ∷ 1486 ∷ 1488 ∷ 1490 ∷ 1492 ∷ 1494 ∷ 1496 ∷ 1498 ∷ 1500 ∷ 1502 ∷ 1504 ∷ 1506 ∷ 1508 ∷ 1510 ∷ 1512 ∷ 1514 ∷ 1516 ∷ 1518 ∷ 1520 ∷ 1522
     ∷ 1524 ∷ 1526 ∷ 1528 ∷ 1530 ∷ 1532 ∷ 1534 ∷ 1535 ∷ []
 
-unfoldable pub edges : List ℕ
-edges =
+unfoldable pub edges1 : List ℕ
+edges1 =
     295 ∷ 511 ∷ 1063 ∷ 103 ∷ 983 ∷ 1423 ∷ 391 ∷ 1335 ∷ 1415 ∷ 367 ∷ 471 ∷ 1447 ∷ 87 ∷ 743 ∷ 783 ∷ 263 ∷ 1199 ∷ 1439 ∷ 15 ∷ 1263 ∷ 1383 ∷ 567 ∷
     935 ∷ 959 ∷ 135 ∷ 631 ∷ 1455 ∷ 351 ∷ 1007 ∷ 1487 ∷ 39 ∷ 687 ∷ 1047 ∷ 727 ∷ 911 ∷ 999 ∷ 311 ∷ 415 ∷ 575 ∷ 271 ∷ 639 ∷ 967 ∷ 127 ∷ 527 ∷ 1143
     ∷ 399 ∷ 903 ∷ 1311 ∷ 335 ∷ 1239 ∷ 1391 ∷ 143 ∷ 407 ∷ 1431 ∷ 31 ∷ 343 ∷ 1231 ∷ 663 ∷ 895 ∷ 1071 ∷ 95 ∷ 863 ∷ 927 ∷ 327 ∷ 559 ∷ 583 ∷ 279 ∷
@@ -244,40 +244,40 @@ edges =
     1534 ∷ 1533 ∷ []
 
 -- the construction, computed
-made-right : made 384 192 0x4c44504335313201 .columns ≡ reverse (threes rows)
-unfolding draw xor mixed holds settled sorted insert upFrom firstOutside marked markedIf markedBy marksOf lessOf met scan foundIn quickSearch quickPick loaded quickFinished finished quickOnePick quickPicks quickColumn quickColumns quick rows threes
-made-right = sym (ap (λ (g : Made). g .columns) (agree 384 192 0x4c44504335313201 (omega arith))) ∙ refl
+made-right1 : made 384 192 0x4c44504335313201 .columns ≡ reverse (threes rows1)
+unfolding draw xor mixed holds settled sorted insert upFrom firstOutside marked markedIf markedBy marksOf lessOf met scan foundIn quickSearch quickPick loaded quickFinished finished quickOnePick quickPicks quickColumn quickColumns quick rows1 threes
+made-right1 = sym (ap (λ (g : Made). g .columns) (agree 384 192 0x4c44504335313201 (omega arith))) ∙ refl
 
-pub rows-right : rows ≡ messageRows n576r23
-unfolding rowsOf laidBefore rows threes
-rows-right = sym (ap (λ (cs : List (List ℕ)). laidBefore cs []) made-right)
+pub rows-right1 : rows1 ≡ messageRows n576r23
+unfolding rowsOf laidBefore rows1 threes
+rows-right1 = sym (ap (λ (cs : List (List ℕ)). laidBefore cs []) made-right1)
 
-columns-right : columns n576r23 ≡ threes rows
-unfolding columns rows threes
-columns-right = ap reverse made-right
+columns-right1 : columns n576r23 ≡ threes rows1
+unfolding columns rows1 threes
+columns-right1 = ap reverse made-right1
 
-checks-right : checks n576r23 ≡ rowsFrom 384 (threes rows) 0 192
+checks-right1 : checks n576r23 ≡ checkRows 384 (threes rows1) 0 192
 unfolding checks
-checks-right = rw columns-right
+checks-right1 = rw columns-right1
 
-pub check-bits-right : checkBits ≡ joined (checks n576r23)
-unfolding checkBits joined rowsFrom checkRow taps parityEntries holds rows threes
-check-bits-right = sym (ap joined checks-right)
+pub check-bits-right1 : checkBits1 ≡ joined (checks n576r23)
+unfolding checkBits1 joined checkRows checkRow taps parityEntries holds rows1 threes
+check-bits-right1 = sym (ap joined checks-right1)
 
-pub check-starts-right : checkStarts ≡ offsets (checks n576r23)
-unfolding checkStarts ends rowsFrom checkRow taps parityEntries holds rows threes
-check-starts-right = sym (ap offsets checks-right)
+pub check-starts-right1 : checkStarts1 ≡ offsets (checks n576r23)
+unfolding checkStarts1 ends checkRows checkRow taps parityEntries holds rows1 threes
+check-starts-right1 = sym (ap offsets checks-right1)
 
-edges-computed : edges ≡ joined (edgesFrom 0 576 checkBits)
-unfolding edges checkBits joined edgesFrom places
-edges-computed = refl
+edges-computed1 : edges1 ≡ joined (edgesFrom 0 576 checkBits1)
+unfolding edges1 checkBits1 joined edgesFrom places
+edges-computed1 = refl
 
-pub edges-right : edges ≡ joined (bitEdges 576 (checks n576r23))
-edges-right = edges-computed ∙ ap (λ (flat : List ℕ). joined (edgesFrom 0 576 flat)) check-bits-right
+pub edges-right1 : edges1 ≡ joined (bitEdges 576 (checks n576r23))
+edges-right1 = edges-computed1 ∙ ap (λ (flat : List ℕ). joined (edgesFrom 0 576 flat)) check-bits-right1
 
-edge-starts-computed : edgeStarts ≡ offsets (edgesFrom 0 576 checkBits)
-unfolding edgeStarts checkBits ends edgesFrom places
-edge-starts-computed = refl
+edge-starts-computed1 : edgeStarts1 ≡ offsets (edgesFrom 0 576 checkBits1)
+unfolding edgeStarts1 checkBits1 ends edgesFrom places
+edge-starts-computed1 = refl
 
-pub edge-starts-right : edgeStarts ≡ offsets (bitEdges 576 (checks n576r23))
-edge-starts-right = edge-starts-computed ∙ ap (λ (flat : List ℕ). offsets (edgesFrom 0 576 flat)) check-bits-right
+pub edge-starts-right1 : edgeStarts1 ≡ offsets (bitEdges 576 (checks n576r23))
+edge-starts-right1 = edge-starts-computed1 ∙ ap (λ (flat : List ℕ). offsets (edgesFrom 0 576 flat)) check-bits-right1
