@@ -1,5 +1,5 @@
 // The staircase codes: encoding and counting, over tables that are proved to be what the construction gives.
-mod tables;
+pub mod tables;
 
 use construction::codes::N512R12;
 use construction::codes::N512R34;
