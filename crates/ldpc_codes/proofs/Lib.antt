@@ -1,4 +1,7 @@
-pub mod Threes
+pub mod Rows
 pub mod N512R12
 pub mod N576R23
 pub mod N512R34
+pub mod Codewords
+pub mod Laid
+pub mod Cases

@@ -1,54 +1,16 @@
--- The tables of N512R12, which are what the construction gives: the rows by computing the construction's quick form, the rest from the rows.
+-- The tables of N512R12, which hold its checks and each bit's edges: computed from the rows of its message columns.
 use mathlib.Core.Path.{_≡_, refl, sym, ap, _∙_}
 use mathlib.Core.List.{List, [], _∷_, reverse}
 use Prim.Native.Nat.{ℕ}
-use native.Mathlib.Omega.{arith}
-use Rattle.construction.specs.Draw.{draw, xor, mixed}
-use Rattle.construction.specs.Columns.{Made, holds, settled, sorted, insert, upFrom, firstOutside, finished, made, rowsOf, laidBefore}
-use Rattle.construction.specs.Quick.{marked, markedIf, markedBy, marksOf, lessOf, met, scan, foundIn, quickSearch, quickPick, loaded, quickOnePick, quickPicks, quickFinished, quickColumn, quickColumns, quick}
-use Rattle.construction.specs.Codes.{n512r12, messageRows}
-use Rattle.construction.proofs.Agree.{agree}
+use Rattle.construction.specs.Columns.{holds}
+use Rattle.construction.specs.Codes.{n512r12}
 use Rattle.tanner.specs.Flat.{joined, ends, offsets, places, edgesFrom, bitEdges}
-use Rattle.ldpc_codes.specs.Staircase.{taps, parityEntries, checkRow, rowsFrom}
+use Rattle.ldpc_codes.specs.Staircase.{taps, parityEntries, checkRow, checkRows}
 use Rattle.ldpc_codes.specs.Codes.{columns, checks}
-use Rattle.ldpc_codes.proofs.Threes.{threes}
+use Rattle.ldpc_codes.proofs.Rows.{threes, rows0, made-right0}
 
-unfoldable pub rows : List ℕ
-rows =
-    41 ∷ 100 ∷ 196 ∷ 58 ∷ 104 ∷ 151 ∷ 14 ∷ 86 ∷ 124 ∷ 188 ∷ 192 ∷ 223 ∷ 126 ∷ 134 ∷ 173 ∷ 69 ∷ 132 ∷ 174 ∷ 130 ∷ 221 ∷ 237 ∷ 90 ∷ 127 ∷ 172 ∷
-    117 ∷ 141 ∷ 220 ∷ 80 ∷ 201 ∷ 224 ∷ 61 ∷ 152 ∷ 210 ∷ 71 ∷ 75 ∷ 79 ∷ 12 ∷ 13 ∷ 181 ∷ 107 ∷ 146 ∷ 187 ∷ 21 ∷ 101 ∷ 128 ∷ 54 ∷ 116 ∷ 179 ∷ 25 ∷
-    32 ∷ 244 ∷ 180 ∷ 185 ∷ 222 ∷ 15 ∷ 89 ∷ 168 ∷ 28 ∷ 56 ∷ 165 ∷ 92 ∷ 94 ∷ 197 ∷ 57 ∷ 119 ∷ 167 ∷ 93 ∷ 147 ∷ 176 ∷ 4 ∷ 42 ∷ 133 ∷ 5 ∷ 39 ∷ 120 ∷
-    97 ∷ 225 ∷ 236 ∷ 16 ∷ 72 ∷ 205 ∷ 37 ∷ 109 ∷ 254 ∷ 95 ∷ 182 ∷ 247 ∷ 45 ∷ 157 ∷ 164 ∷ 121 ∷ 186 ∷ 191 ∷ 17 ∷ 43 ∷ 91 ∷ 73 ∷ 123 ∷ 209 ∷ 82 ∷
-    230 ∷ 245 ∷ 18 ∷ 231 ∷ 252 ∷ 144 ∷ 155 ∷ 250 ∷ 19 ∷ 44 ∷ 189 ∷ 135 ∷ 177 ∷ 248 ∷ 136 ∷ 153 ∷ 161 ∷ 20 ∷ 26 ∷ 145 ∷ 3 ∷ 169 ∷ 183 ∷ 47 ∷ 106
-    ∷ 213 ∷ 6 ∷ 33 ∷ 137 ∷ 59 ∷ 143 ∷ 150 ∷ 22 ∷ 70 ∷ 108 ∷ 1 ∷ 51 ∷ 129 ∷ 23 ∷ 96 ∷ 190 ∷ 38 ∷ 131 ∷ 249 ∷ 2 ∷ 98 ∷ 125 ∷ 103 ∷ 138 ∷ 142 ∷ 7 ∷
-    203 ∷ 240 ∷ 31 ∷ 122 ∷ 166 ∷ 178 ∷ 193 ∷ 253 ∷ 118 ∷ 204 ∷ 251 ∷ 68 ∷ 102 ∷ 194 ∷ 27 ∷ 74 ∷ 243 ∷ 9 ∷ 46 ∷ 170 ∷ 8 ∷ 24 ∷ 235 ∷ 29 ∷ 111 ∷
-    200 ∷ 30 ∷ 83 ∷ 148 ∷ 99 ∷ 105 ∷ 238 ∷ 110 ∷ 112 ∷ 171 ∷ 55 ∷ 149 ∷ 175 ∷ 10 ∷ 34 ∷ 184 ∷ 35 ∷ 48 ∷ 81 ∷ 60 ∷ 113 ∷ 207 ∷ 36 ∷ 195 ∷ 198 ∷
-    49 ∷ 77 ∷ 208 ∷ 40 ∷ 199 ∷ 228 ∷ 50 ∷ 62 ∷ 246 ∷ 139 ∷ 218 ∷ 229 ∷ 11 ∷ 154 ∷ 215 ∷ 52 ∷ 63 ∷ 156 ∷ 53 ∷ 64 ∷ 114 ∷ 65 ∷ 158 ∷ 232 ∷ 66 ∷ 67
-    ∷ 140 ∷ 159 ∷ 160 ∷ 241 ∷ 76 ∷ 162 ∷ 239 ∷ 163 ∷ 202 ∷ 211 ∷ 206 ∷ 212 ∷ 214 ∷ 78 ∷ 115 ∷ 216 ∷ 84 ∷ 85 ∷ 217 ∷ 87 ∷ 88 ∷ 219 ∷ 226 ∷ 227 ∷
-    233 ∷ 234 ∷ 242 ∷ 255 ∷ 0 ∷ 108 ∷ 238 ∷ 130 ∷ 177 ∷ 233 ∷ 44 ∷ 84 ∷ 184 ∷ 7 ∷ 152 ∷ 207 ∷ 1 ∷ 55 ∷ 151 ∷ 128 ∷ 159 ∷ 192 ∷ 49 ∷ 65 ∷ 73 ∷ 97
-    ∷ 158 ∷ 213 ∷ 76 ∷ 86 ∷ 215 ∷ 33 ∷ 80 ∷ 140 ∷ 135 ∷ 181 ∷ 182 ∷ 150 ∷ 228 ∷ 255 ∷ 8 ∷ 136 ∷ 205 ∷ 9 ∷ 17 ∷ 63 ∷ 81 ∷ 87 ∷ 217 ∷ 16 ∷ 197 ∷
-    244 ∷ 193 ∷ 196 ∷ 223 ∷ 36 ∷ 118 ∷ 214 ∷ 10 ∷ 102 ∷ 124 ∷ 15 ∷ 50 ∷ 202 ∷ 68 ∷ 106 ∷ 201 ∷ 19 ∷ 94 ∷ 212 ∷ 23 ∷ 132 ∷ 143 ∷ 127 ∷ 144 ∷ 168
-    ∷ 20 ∷ 88 ∷ 216 ∷ 18 ∷ 91 ∷ 166 ∷ 46 ∷ 141 ∷ 203 ∷ 24 ∷ 25 ∷ 185 ∷ 58 ∷ 167 ∷ 221 ∷ 4 ∷ 237 ∷ 239 ∷ 5 ∷ 142 ∷ 204 ∷ 67 ∷ 169 ∷ 247 ∷ 47 ∷
-    174 ∷ 206 ∷ 42 ∷ 66 ∷ 170 ∷ 27 ∷ 95 ∷ 189 ∷ 2 ∷ 110 ∷ 119 ∷ 53 ∷ 153 ∷ 231 ∷ 21 ∷ 37 ∷ 208 ∷ 6 ∷ 69 ∷ 178 ∷ 11 ∷ 96 ∷ 183 ∷ 129 ∷ 149 ∷ 218
-    ∷ 78 ∷ 171 ∷ 200 ∷ 79 ∷ 98 ∷ 186 ∷ 34 ∷ 242 ∷ 249 ∷ 45 ∷ 62 ∷ 74 ∷ 64 ∷ 145 ∷ 187 ∷ 0 ∷ 70 ∷ 176 ∷ 57 ∷ 209 ∷ 248 ∷ 26 ∷ 172 ∷ 175 ∷ 31 ∷ 61
-    ∷ 219 ∷ 82 ∷ 90 ∷ 139 ∷ 173 ∷ 194 ∷ 199 ∷ 38 ∷ 117 ∷ 241 ∷ 83 ∷ 146 ∷ 188 ∷ 52 ∷ 77 ∷ 229 ∷ 120 ∷ 154 ∷ 155 ∷ 89 ∷ 134 ∷ 156 ∷ 12 ∷ 71 ∷ 72
-    ∷ 137 ∷ 147 ∷ 222 ∷ 22 ∷ 28 ∷ 43 ∷ 99 ∷ 138 ∷ 148 ∷ 13 ∷ 100 ∷ 112 ∷ 29 ∷ 75 ∷ 224 ∷ 101 ∷ 103 ∷ 157 ∷ 85 ∷ 107 ∷ 190 ∷ 48 ∷ 160 ∷ 161 ∷ 30
-    ∷ 162 ∷ 163 ∷ 92 ∷ 179 ∷ 220 ∷ 93 ∷ 164 ∷ 225 ∷ 3 ∷ 104 ∷ 191 ∷ 105 ∷ 109 ∷ 165 ∷ 113 ∷ 195 ∷ 226 ∷ 14 ∷ 121 ∷ 198 ∷ 51 ∷ 227 ∷ 252 ∷ 111 ∷
-    114 ∷ 180 ∷ 54 ∷ 56 ∷ 210 ∷ 32 ∷ 211 ∷ 243 ∷ 115 ∷ 116 ∷ 122 ∷ 35 ∷ 123 ∷ 125 ∷ 126 ∷ 230 ∷ 232 ∷ 39 ∷ 59 ∷ 234 ∷ 40 ∷ 235 ∷ 236 ∷ 41 ∷ 60 ∷
-    240 ∷ 131 ∷ 133 ∷ 245 ∷ 246 ∷ 250 ∷ 251 ∷ 25 ∷ 253 ∷ 254 ∷ 164 ∷ 169 ∷ 211 ∷ 206 ∷ 218 ∷ 249 ∷ 99 ∷ 116 ∷ 229 ∷ 18 ∷ 52 ∷ 68 ∷ 142 ∷ 174 ∷
-    213 ∷ 28 ∷ 48 ∷ 157 ∷ 2 ∷ 95 ∷ 219 ∷ 59 ∷ 132 ∷ 233 ∷ 11 ∷ 111 ∷ 187 ∷ 162 ∷ 236 ∷ 245 ∷ 101 ∷ 119 ∷ 209 ∷ 97 ∷ 133 ∷ 138 ∷ 6 ∷ 168 ∷ 237 ∷
-    12 ∷ 104 ∷ 126 ∷ 92 ∷ 143 ∷ 244 ∷ 19 ∷ 49 ∷ 210 ∷ 39 ∷ 123 ∷ 181 ∷ 80 ∷ 82 ∷ 110 ∷ 53 ∷ 131 ∷ 144 ∷ 114 ∷ 199 ∷ 220 ∷ 7 ∷ 40 ∷ 58 ∷ 50 ∷ 139
-    ∷ 186 ∷ 26 ∷ 100 ∷ 156 ∷ 140 ∷ 153 ∷ 248 ∷ 3 ∷ 13 ∷ 90 ∷ 55 ∷ 102 ∷ 170 ∷ 94 ∷ 106 ∷ 239 ∷ 31 ∷ 141 ∷ 246 ∷ 113 ∷ 221 ∷ 247 ∷ 37 ∷ 121 ∷ 222
-    ∷ 41 ∷ 124 ∷ 171 ∷ 172 ∷ 198 ∷ 217 ∷ 65 ∷ 250 ∷ 255 ∷ 112 ∷ 145 ∷ 146 ∷ 23 ∷ 42 ∷ 115 ∷ 8 ∷ 27 ∷ 173 ∷ 60 ∷ 152 ∷ 230 ∷ 109 ∷ 122 ∷ 214 ∷ 29
-    ∷ 43 ∷ 205 ∷ 5 ∷ 167 ∷ 192 ∷ 20 ∷ 107 ∷ 147 ∷ 71 ∷ 91 ∷ 189 ∷ 21 ∷ 134 ∷ 177 ∷ 9 ∷ 54 ∷ 202 ∷ 24 ∷ 45 ∷ 188 ∷ 33 ∷ 87 ∷ 190 ∷ 14 ∷ 34 ∷ 193
-    ∷ 30 ∷ 93 ∷ 231 ∷ 70 ∷ 191 ∷ 241 ∷ 44 ∷ 234 ∷ 251 ∷ 10 ∷ 32 ∷ 223 ∷ 57 ∷ 178 ∷ 224 ∷ 158 ∷ 165 ∷ 204 ∷ 127 ∷ 212 ∷ 215 ∷ 36 ∷ 108 ∷ 125 ∷ 77
-    ∷ 175 ∷ 196 ∷ 35 ∷ 75 ∷ 117 ∷ 15 ∷ 176 ∷ 252 ∷ 130 ∷ 179 ∷ 225 ∷ 22 ∷ 46 ∷ 182 ∷ 61 ∷ 118 ∷ 163 ∷ 78 ∷ 128 ∷ 135 ∷ 62 ∷ 96 ∷ 120 ∷ 47 ∷ 228
-    ∷ 232 ∷ 72 ∷ 226 ∷ 235 ∷ 83 ∷ 149 ∷ 166 ∷ 148 ∷ 180 ∷ 253 ∷ 4 ∷ 129 ∷ 136 ∷ 38 ∷ 66 ∷ 203 ∷ 51 ∷ 76 ∷ 254 ∷ 98 ∷ 103 ∷ 216 ∷ 137 ∷ 150 ∷ 238
-    ∷ 0 ∷ 105 ∷ 240 ∷ 16 ∷ 151 ∷ 154 ∷ 88 ∷ 242 ∷ 243 ∷ 155 ∷ 207 ∷ 227 ∷ 1 ∷ 56 ∷ 194 ∷ 17 ∷ 64 ∷ 159 ∷ 63 ∷ 67 ∷ 69 ∷ 73 ∷ 160 ∷ 183 ∷ 74 ∷
-    161 ∷ 195 ∷ 184 ∷ 185 ∷ 197 ∷ 79 ∷ 200 ∷ 201 ∷ 81 ∷ 84 ∷ 208 ∷ 85 ∷ 86 ∷ 89 ∷ []
-
-unfoldable pub checkStarts : List ℕ
-checkStarts =
+unfoldable pub checkStarts0 : List ℕ
+checkStarts0 =
     0 ∷ 4 ∷ 9 ∷ 14 ∷ 19 ∷ 24 ∷ 29 ∷ 34 ∷ 39 ∷ 44 ∷ 49 ∷ 54 ∷ 59 ∷ 64 ∷ 69 ∷ 74 ∷ 79 ∷ 84 ∷ 89 ∷ 94 ∷ 99 ∷ 104 ∷ 109 ∷ 114 ∷ 119 ∷ 124 ∷ 129 ∷
     134 ∷ 139 ∷ 144 ∷ 149 ∷ 154 ∷ 159 ∷ 164 ∷ 169 ∷ 174 ∷ 179 ∷ 184 ∷ 189 ∷ 194 ∷ 199 ∷ 204 ∷ 209 ∷ 214 ∷ 219 ∷ 224 ∷ 229 ∷ 234 ∷ 239 ∷ 244 ∷
     249 ∷ 254 ∷ 259 ∷ 264 ∷ 269 ∷ 274 ∷ 279 ∷ 284 ∷ 289 ∷ 294 ∷ 299 ∷ 304 ∷ 309 ∷ 314 ∷ 319 ∷ 324 ∷ 329 ∷ 334 ∷ 339 ∷ 344 ∷ 349 ∷ 354 ∷ 359 ∷
@@ -62,8 +24,8 @@ checkStarts =
     1149 ∷ 1154 ∷ 1159 ∷ 1164 ∷ 1169 ∷ 1174 ∷ 1179 ∷ 1184 ∷ 1189 ∷ 1194 ∷ 1199 ∷ 1204 ∷ 1209 ∷ 1214 ∷ 1219 ∷ 1224 ∷ 1229 ∷ 1234 ∷ 1239 ∷ 1244 ∷
     1249 ∷ 1254 ∷ 1259 ∷ 1264 ∷ 1269 ∷ 1274 ∷ 1279 ∷ []
 
-unfoldable pub checkBits : List ℕ
-checkBits =
+unfoldable pub checkBits0 : List ℕ
+checkBits0 =
     85 ∷ 131 ∷ 243 ∷ 256 ∷ 45 ∷ 89 ∷ 247 ∷ 257 ∷ 256 ∷ 48 ∷ 120 ∷ 177 ∷ 258 ∷ 257 ∷ 40 ∷ 154 ∷ 195 ∷ 259 ∷ 258 ∷ 23 ∷ 114 ∷ 238 ∷ 260 ∷ 259 ∷ 24
     ∷ 115 ∷ 210 ∷ 261 ∷ 260 ∷ 42 ∷ 123 ∷ 183 ∷ 262 ∷ 261 ∷ 50 ∷ 88 ∷ 191 ∷ 263 ∷ 262 ∷ 57 ∷ 97 ∷ 206 ∷ 264 ∷ 263 ∷ 56 ∷ 98 ∷ 214 ∷ 265 ∷ 264 ∷
     63 ∷ 103 ∷ 221 ∷ 266 ∷ 265 ∷ 71 ∷ 124 ∷ 179 ∷ 267 ∷ 266 ∷ 12 ∷ 142 ∷ 184 ∷ 268 ∷ 267 ∷ 12 ∷ 146 ∷ 195 ∷ 269 ∷ 268 ∷ 2 ∷ 157 ∷ 217 ∷ 270 ∷
@@ -118,8 +80,8 @@ checkBits =
     132 ∷ 194 ∷ 504 ∷ 503 ∷ 47 ∷ 128 ∷ 172 ∷ 505 ∷ 504 ∷ 35 ∷ 169 ∷ 203 ∷ 506 ∷ 505 ∷ 53 ∷ 169 ∷ 220 ∷ 507 ∷ 506 ∷ 34 ∷ 158 ∷ 228 ∷ 508 ∷ 507 ∷
     52 ∷ 170 ∷ 237 ∷ 509 ∷ 508 ∷ 27 ∷ 170 ∷ 240 ∷ 510 ∷ 509 ∷ 84 ∷ 96 ∷ 203 ∷ 511 ∷ 510 ∷ []
 
-unfoldable pub edgeStarts : List ℕ
-edgeStarts =
+unfoldable pub edgeStarts0 : List ℕ
+edgeStarts0 =
     0 ∷ 3 ∷ 6 ∷ 9 ∷ 12 ∷ 15 ∷ 18 ∷ 21 ∷ 24 ∷ 27 ∷ 30 ∷ 33 ∷ 36 ∷ 39 ∷ 42 ∷ 45 ∷ 48 ∷ 51 ∷ 54 ∷ 57 ∷ 60 ∷ 63 ∷ 66 ∷ 69 ∷ 72 ∷ 75 ∷ 78 ∷ 81 ∷ 84 ∷
     87 ∷ 90 ∷ 93 ∷ 96 ∷ 99 ∷ 102 ∷ 105 ∷ 108 ∷ 111 ∷ 114 ∷ 117 ∷ 120 ∷ 123 ∷ 126 ∷ 129 ∷ 132 ∷ 135 ∷ 138 ∷ 141 ∷ 144 ∷ 147 ∷ 150 ∷ 153 ∷ 156 ∷
     159 ∷ 162 ∷ 165 ∷ 168 ∷ 171 ∷ 174 ∷ 177 ∷ 180 ∷ 183 ∷ 186 ∷ 189 ∷ 192 ∷ 195 ∷ 198 ∷ 201 ∷ 204 ∷ 207 ∷ 210 ∷ 213 ∷ 216 ∷ 219 ∷ 222 ∷ 225 ∷
@@ -144,8 +106,8 @@ edgeStarts =
     1206 ∷ 1208 ∷ 1210 ∷ 1212 ∷ 1214 ∷ 1216 ∷ 1218 ∷ 1220 ∷ 1222 ∷ 1224 ∷ 1226 ∷ 1228 ∷ 1230 ∷ 1232 ∷ 1234 ∷ 1236 ∷ 1238 ∷ 1240 ∷ 1242 ∷ 1244 ∷
     1246 ∷ 1248 ∷ 1250 ∷ 1252 ∷ 1254 ∷ 1256 ∷ 1258 ∷ 1260 ∷ 1262 ∷ 1264 ∷ 1266 ∷ 1268 ∷ 1270 ∷ 1272 ∷ 1274 ∷ 1276 ∷ 1278 ∷ 1279 ∷ []
 
-unfoldable pub edges : List ℕ
-edges =
+unfoldable pub edges0 : List ℕ
+edges0 =
     204 ∷ 499 ∷ 979 ∷ 289 ∷ 519 ∷ 754 ∷ 69 ∷ 429 ∷ 619 ∷ 939 ∷ 959 ∷ 1114 ∷ 629 ∷ 669 ∷ 864 ∷ 344 ∷ 659 ∷ 869 ∷ 649 ∷ 1104 ∷ 1184 ∷ 449 ∷ 634 ∷
     859 ∷ 584 ∷ 704 ∷ 1099 ∷ 399 ∷ 1004 ∷ 1119 ∷ 304 ∷ 759 ∷ 1049 ∷ 354 ∷ 374 ∷ 394 ∷ 59 ∷ 64 ∷ 904 ∷ 534 ∷ 729 ∷ 934 ∷ 104 ∷ 504 ∷ 639 ∷ 269 ∷
     579 ∷ 894 ∷ 124 ∷ 159 ∷ 1219 ∷ 899 ∷ 924 ∷ 1109 ∷ 74 ∷ 444 ∷ 839 ∷ 139 ∷ 279 ∷ 824 ∷ 459 ∷ 469 ∷ 984 ∷ 284 ∷ 594 ∷ 834 ∷ 464 ∷ 734 ∷ 879 ∷
@@ -204,41 +166,32 @@ edges =
     1217 ∷ 1223 ∷ 1222 ∷ 1228 ∷ 1227 ∷ 1233 ∷ 1232 ∷ 1238 ∷ 1237 ∷ 1243 ∷ 1242 ∷ 1248 ∷ 1247 ∷ 1253 ∷ 1252 ∷ 1258 ∷ 1257 ∷ 1263 ∷ 1262 ∷ 1268 ∷
     1267 ∷ 1273 ∷ 1272 ∷ 1278 ∷ 1277 ∷ []
 
--- the construction, computed
-made-right : made 256 256 0x4c44504335313200 .columns ≡ reverse (threes rows)
-unfolding draw xor mixed holds settled sorted insert upFrom firstOutside marked markedIf markedBy marksOf lessOf met scan foundIn quickSearch quickPick loaded quickFinished finished quickOnePick quickPicks quickColumn quickColumns quick rows threes
-made-right = sym (ap (λ (g : Made). g .columns) (agree 256 256 0x4c44504335313200 (omega arith))) ∙ refl
+columns-right0 : columns n512r12 ≡ threes rows0
+unfolding columns rows0 threes
+columns-right0 = ap reverse made-right0
 
-pub rows-right : rows ≡ messageRows n512r12
-unfolding rowsOf laidBefore rows threes
-rows-right = sym (ap (λ (cs : List (List ℕ)). laidBefore cs []) made-right)
-
-columns-right : columns n512r12 ≡ threes rows
-unfolding columns rows threes
-columns-right = ap reverse made-right
-
-checks-right : checks n512r12 ≡ rowsFrom 256 (threes rows) 0 256
+pub checks-right0 : checks n512r12 ≡ checkRows 256 (threes rows0) 0 256
 unfolding checks
-checks-right = rw columns-right
+checks-right0 = rw columns-right0
 
-pub check-bits-right : checkBits ≡ joined (checks n512r12)
-unfolding checkBits joined rowsFrom checkRow taps parityEntries holds rows threes
-check-bits-right = sym (ap joined checks-right)
+pub check-bits-right0 : checkBits0 ≡ joined (checks n512r12)
+unfolding checkBits0 joined checkRows checkRow taps parityEntries holds rows0 threes
+check-bits-right0 = sym (ap joined checks-right0)
 
-pub check-starts-right : checkStarts ≡ offsets (checks n512r12)
-unfolding checkStarts ends rowsFrom checkRow taps parityEntries holds rows threes
-check-starts-right = sym (ap offsets checks-right)
+pub check-starts-right0 : checkStarts0 ≡ offsets (checks n512r12)
+unfolding checkStarts0 ends checkRows checkRow taps parityEntries holds rows0 threes
+check-starts-right0 = sym (ap offsets checks-right0)
 
-edges-computed : edges ≡ joined (edgesFrom 0 512 checkBits)
-unfolding edges checkBits joined edgesFrom places
-edges-computed = refl
+edges-computed0 : edges0 ≡ joined (edgesFrom 0 512 checkBits0)
+unfolding edges0 checkBits0 joined edgesFrom places
+edges-computed0 = refl
 
-pub edges-right : edges ≡ joined (bitEdges 512 (checks n512r12))
-edges-right = edges-computed ∙ ap (λ (flat : List ℕ). joined (edgesFrom 0 512 flat)) check-bits-right
+pub edges-right0 : edges0 ≡ joined (bitEdges 512 (checks n512r12))
+edges-right0 = edges-computed0 ∙ ap (λ (flat : List ℕ). joined (edgesFrom 0 512 flat)) check-bits-right0
 
-edge-starts-computed : edgeStarts ≡ offsets (edgesFrom 0 512 checkBits)
-unfolding edgeStarts checkBits ends edgesFrom places
-edge-starts-computed = refl
+edge-starts-computed0 : edgeStarts0 ≡ offsets (edgesFrom 0 512 checkBits0)
+unfolding edgeStarts0 checkBits0 ends edgesFrom places
+edge-starts-computed0 = refl
 
-pub edge-starts-right : edgeStarts ≡ offsets (bitEdges 512 (checks n512r12))
-edge-starts-right = edge-starts-computed ∙ ap (λ (flat : List ℕ). offsets (edgesFrom 0 512 flat)) check-bits-right
+pub edge-starts-right0 : edgeStarts0 ≡ offsets (bitEdges 512 (checks n512r12))
+edge-starts-right0 = edge-starts-computed0 ∙ ap (λ (flat : List ℕ). offsets (edgesFrom 0 512 flat)) check-bits-right0

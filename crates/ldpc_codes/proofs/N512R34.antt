@@ -1,66 +1,16 @@
--- The tables of N512R34, which are what the construction gives: the rows by computing the construction's quick form, the rest from the rows.
+-- The tables of N512R34, which hold its checks and each bit's edges: computed from the rows of its message columns.
 use mathlib.Core.Path.{_≡_, refl, sym, ap, _∙_}
 use mathlib.Core.List.{List, [], _∷_, reverse}
 use Prim.Native.Nat.{ℕ}
-use native.Mathlib.Omega.{arith}
-use Rattle.construction.specs.Draw.{draw, xor, mixed}
-use Rattle.construction.specs.Columns.{Made, holds, settled, sorted, insert, upFrom, firstOutside, finished, made, rowsOf, laidBefore}
-use Rattle.construction.specs.Quick.{marked, markedIf, markedBy, marksOf, lessOf, met, scan, foundIn, quickSearch, quickPick, loaded, quickOnePick, quickPicks, quickFinished, quickColumn, quickColumns, quick}
-use Rattle.construction.specs.Codes.{n512r34, messageRows}
-use Rattle.construction.proofs.Agree.{agree}
+use Rattle.construction.specs.Columns.{holds}
+use Rattle.construction.specs.Codes.{n512r34}
 use Rattle.tanner.specs.Flat.{joined, ends, offsets, places, edgesFrom, bitEdges}
-use Rattle.ldpc_codes.specs.Staircase.{taps, parityEntries, checkRow, rowsFrom}
+use Rattle.ldpc_codes.specs.Staircase.{taps, parityEntries, checkRow, checkRows}
 use Rattle.ldpc_codes.specs.Codes.{columns, checks}
-use Rattle.ldpc_codes.proofs.Threes.{threes}
+use Rattle.ldpc_codes.proofs.Rows.{threes, rows2, made-right2}
 
-unfoldable pub rows : List ℕ
-rows =
-    59 ∷ 71 ∷ 102 ∷ 57 ∷ 74 ∷ 85 ∷ 4 ∷ 34 ∷ 113 ∷ 18 ∷ 64 ∷ 69 ∷ 2 ∷ 23 ∷ 65 ∷ 75 ∷ 112 ∷ 114 ∷ 72 ∷ 96 ∷ 107 ∷ 77 ∷ 80 ∷ 90 ∷ 1 ∷ 13 ∷ 19 ∷ 10
-    ∷ 91 ∷ 97 ∷ 60 ∷ 93 ∷ 106 ∷ 37 ∷ 88 ∷ 92 ∷ 95 ∷ 98 ∷ 119 ∷ 110 ∷ 122 ∷ 127 ∷ 26 ∷ 73 ∷ 86 ∷ 41 ∷ 84 ∷ 115 ∷ 32 ∷ 70 ∷ 83 ∷ 66 ∷ 67 ∷ 104 ∷
-    35 ∷ 38 ∷ 120 ∷ 82 ∷ 103 ∷ 126 ∷ 5 ∷ 58 ∷ 94 ∷ 39 ∷ 68 ∷ 99 ∷ 33 ∷ 76 ∷ 87 ∷ 61 ∷ 105 ∷ 108 ∷ 36 ∷ 43 ∷ 100 ∷ 78 ∷ 101 ∷ 121 ∷ 0 ∷ 79 ∷ 109
-    ∷ 62 ∷ 81 ∷ 111 ∷ 40 ∷ 56 ∷ 123 ∷ 27 ∷ 116 ∷ 117 ∷ 3 ∷ 28 ∷ 118 ∷ 31 ∷ 89 ∷ 124 ∷ 14 ∷ 29 ∷ 125 ∷ 6 ∷ 16 ∷ 51 ∷ 7 ∷ 8 ∷ 30 ∷ 9 ∷ 42 ∷ 63 ∷
-    11 ∷ 12 ∷ 15 ∷ 17 ∷ 44 ∷ 45 ∷ 20 ∷ 24 ∷ 46 ∷ 21 ∷ 22 ∷ 48 ∷ 25 ∷ 47 ∷ 49 ∷ 50 ∷ 52 ∷ 53 ∷ 54 ∷ 55 ∷ 107 ∷ 34 ∷ 86 ∷ 126 ∷ 0 ∷ 46 ∷ 110 ∷ 17
-    ∷ 58 ∷ 101 ∷ 36 ∷ 60 ∷ 77 ∷ 1 ∷ 24 ∷ 67 ∷ 7 ∷ 80 ∷ 91 ∷ 8 ∷ 33 ∷ 105 ∷ 85 ∷ 92 ∷ 93 ∷ 18 ∷ 119 ∷ 124 ∷ 25 ∷ 35 ∷ 65 ∷ 19 ∷ 61 ∷ 109 ∷ 9 ∷ 49
-    ∷ 125 ∷ 78 ∷ 79 ∷ 90 ∷ 23 ∷ 48 ∷ 127 ∷ 20 ∷ 59 ∷ 103 ∷ 41 ∷ 81 ∷ 106 ∷ 83 ∷ 104 ∷ 117 ∷ 26 ∷ 44 ∷ 97 ∷ 21 ∷ 27 ∷ 118 ∷ 28 ∷ 54 ∷ 71 ∷ 37 ∷
-    42 ∷ 114 ∷ 29 ∷ 30 ∷ 84 ∷ 2 ∷ 87 ∷ 94 ∷ 15 ∷ 72 ∷ 95 ∷ 51 ∷ 82 ∷ 120 ∷ 5 ∷ 96 ∷ 108 ∷ 13 ∷ 22 ∷ 88 ∷ 10 ∷ 98 ∷ 111 ∷ 4 ∷ 14 ∷ 45 ∷ 3 ∷ 31 ∷
-    99 ∷ 32 ∷ 55 ∷ 73 ∷ 38 ∷ 68 ∷ 112 ∷ 47 ∷ 100 ∷ 116 ∷ 16 ∷ 39 ∷ 121 ∷ 50 ∷ 115 ∷ 122 ∷ 11 ∷ 40 ∷ 69 ∷ 52 ∷ 64 ∷ 102 ∷ 43 ∷ 62 ∷ 63 ∷ 66 ∷ 74
-    ∷ 113 ∷ 53 ∷ 57 ∷ 123 ∷ 56 ∷ 70 ∷ 75 ∷ 6 ∷ 76 ∷ 89 ∷ 12 ∷ 42 ∷ 57 ∷ 98 ∷ 118 ∷ 124 ∷ 21 ∷ 26 ∷ 126 ∷ 50 ∷ 80 ∷ 99 ∷ 74 ∷ 82 ∷ 121 ∷ 4 ∷ 17 ∷
-    23 ∷ 19 ∷ 27 ∷ 51 ∷ 77 ∷ 89 ∷ 119 ∷ 5 ∷ 100 ∷ 110 ∷ 6 ∷ 15 ∷ 73 ∷ 13 ∷ 52 ∷ 115 ∷ 14 ∷ 49 ∷ 71 ∷ 65 ∷ 101 ∷ 125 ∷ 22 ∷ 62 ∷ 92 ∷ 0 ∷ 16 ∷
-    116 ∷ 90 ∷ 96 ∷ 120 ∷ 25 ∷ 40 ∷ 94 ∷ 7 ∷ 47 ∷ 102 ∷ 29 ∷ 44 ∷ 122 ∷ 18 ∷ 43 ∷ 127 ∷ 45 ∷ 59 ∷ 63 ∷ 20 ∷ 81 ∷ 112 ∷ 28 ∷ 55 ∷ 95 ∷ 3 ∷ 75 ∷
-    123 ∷ 24 ∷ 91 ∷ 114 ∷ 35 ∷ 36 ∷ 53 ∷ 30 ∷ 76 ∷ 97 ∷ 37 ∷ 46 ∷ 56 ∷ 1 ∷ 32 ∷ 64 ∷ 2 ∷ 31 ∷ 38 ∷ 8 ∷ 60 ∷ 103 ∷ 9 ∷ 33 ∷ 93 ∷ 10 ∷ 11 ∷ 34 ∷
-    39 ∷ 70 ∷ 104 ∷ 41 ∷ 78 ∷ 105 ∷ 12 ∷ 48 ∷ 54 ∷ 58 ∷ 61 ∷ 113 ∷ 66 ∷ 79 ∷ 117 ∷ 67 ∷ 68 ∷ 84 ∷ 69 ∷ 72 ∷ 83 ∷ 85 ∷ 86 ∷ 87 ∷ 88 ∷ 106 ∷ 107 ∷
-    108 ∷ 109 ∷ 111 ∷ 24 ∷ 78 ∷ 80 ∷ 70 ∷ 71 ∷ 100 ∷ 4 ∷ 6 ∷ 19 ∷ 15 ∷ 89 ∷ 101 ∷ 20 ∷ 69 ∷ 108 ∷ 5 ∷ 41 ∷ 44 ∷ 67 ∷ 72 ∷ 122 ∷ 73 ∷ 112 ∷ 115 ∷
-    42 ∷ 45 ∷ 60 ∷ 27 ∷ 61 ∷ 87 ∷ 65 ∷ 93 ∷ 109 ∷ 9 ∷ 64 ∷ 120 ∷ 79 ∷ 88 ∷ 113 ∷ 8 ∷ 10 ∷ 95 ∷ 11 ∷ 21 ∷ 114 ∷ 12 ∷ 81 ∷ 126 ∷ 74 ∷ 75 ∷ 86 ∷ 34
-    ∷ 56 ∷ 90 ∷ 13 ∷ 37 ∷ 124 ∷ 22 ∷ 43 ∷ 68 ∷ 18 ∷ 58 ∷ 76 ∷ 63 ∷ 91 ∷ 110 ∷ 47 ∷ 48 ∷ 92 ∷ 16 ∷ 94 ∷ 111 ∷ 31 ∷ 77 ∷ 102 ∷ 17 ∷ 33 ∷ 125 ∷ 29
-    ∷ 38 ∷ 127 ∷ 14 ∷ 30 ∷ 103 ∷ 23 ∷ 49 ∷ 82 ∷ 53 ∷ 54 ∷ 96 ∷ 7 ∷ 25 ∷ 116 ∷ 26 ∷ 105 ∷ 117 ∷ 28 ∷ 32 ∷ 119 ∷ 46 ∷ 51 ∷ 118 ∷ 35 ∷ 97 ∷ 98 ∷ 83
-    ∷ 99 ∷ 123 ∷ 50 ∷ 104 ∷ 106 ∷ 52 ∷ 66 ∷ 107 ∷ 36 ∷ 39 ∷ 84 ∷ 0 ∷ 85 ∷ 121 ∷ 1 ∷ 40 ∷ 62 ∷ 55 ∷ 57 ∷ 59 ∷ 2 ∷ 3 ∷ 125 ∷ 32 ∷ 72 ∷ 113 ∷ 0 ∷
-    68 ∷ 74 ∷ 62 ∷ 64 ∷ 87 ∷ 16 ∷ 63 ∷ 105 ∷ 29 ∷ 48 ∷ 76 ∷ 1 ∷ 7 ∷ 77 ∷ 2 ∷ 99 ∷ 107 ∷ 60 ∷ 69 ∷ 126 ∷ 4 ∷ 70 ∷ 88 ∷ 47 ∷ 56 ∷ 96 ∷ 20 ∷ 49 ∷
-    67 ∷ 27 ∷ 65 ∷ 122 ∷ 28 ∷ 66 ∷ 97 ∷ 5 ∷ 39 ∷ 52 ∷ 51 ∷ 61 ∷ 104 ∷ 54 ∷ 81 ∷ 123 ∷ 41 ∷ 55 ∷ 127 ∷ 31 ∷ 100 ∷ 108 ∷ 33 ∷ 42 ∷ 73 ∷ 35 ∷ 46 ∷
-    124 ∷ 3 ∷ 14 ∷ 78 ∷ 44 ∷ 71 ∷ 82 ∷ 19 ∷ 30 ∷ 79 ∷ 9 ∷ 53 ∷ 75 ∷ 6 ∷ 34 ∷ 117 ∷ 10 ∷ 106 ∷ 114 ∷ 80 ∷ 83 ∷ 115 ∷ 8 ∷ 17 ∷ 40 ∷ 37 ∷ 84 ∷ 98 ∷
-    23 ∷ 36 ∷ 85 ∷ 11 ∷ 86 ∷ 89 ∷ 12 ∷ 50 ∷ 121 ∷ 58 ∷ 90 ∷ 91 ∷ 43 ∷ 59 ∷ 118 ∷ 13 ∷ 21 ∷ 92 ∷ 57 ∷ 93 ∷ 112 ∷ 15 ∷ 18 ∷ 120 ∷ 22 ∷ 24 ∷ 94 ∷
-    95 ∷ 101 ∷ 109 ∷ 25 ∷ 26 ∷ 38 ∷ 45 ∷ 102 ∷ 103 ∷ 110 ∷ 111 ∷ 116 ∷ 2 ∷ 36 ∷ 119 ∷ 24 ∷ 71 ∷ 127 ∷ 9 ∷ 34 ∷ 89 ∷ 25 ∷ 43 ∷ 72 ∷ 64 ∷ 104 ∷
-    123 ∷ 23 ∷ 57 ∷ 69 ∷ 0 ∷ 65 ∷ 86 ∷ 55 ∷ 87 ∷ 118 ∷ 31 ∷ 68 ∷ 122 ∷ 26 ∷ 66 ∷ 94 ∷ 50 ∷ 61 ∷ 67 ∷ 35 ∷ 81 ∷ 88 ∷ 47 ∷ 90 ∷ 107 ∷ 1 ∷ 5 ∷ 27 ∷
-    29 ∷ 80 ∷ 97 ∷ 32 ∷ 82 ∷ 110 ∷ 7 ∷ 70 ∷ 111 ∷ 51 ∷ 73 ∷ 95 ∷ 11 ∷ 33 ∷ 52 ∷ 13 ∷ 91 ∷ 116 ∷ 21 ∷ 46 ∷ 98 ∷ 3 ∷ 30 ∷ 83 ∷ 22 ∷ 53 ∷ 125 ∷ 28
-    ∷ 63 ∷ 103 ∷ 4 ∷ 108 ∷ 114 ∷ 6 ∷ 37 ∷ 74 ∷ 12 ∷ 58 ∷ 75 ∷ 45 ∷ 105 ∷ 120 ∷ 8 ∷ 19 ∷ 76 ∷ 10 ∷ 38 ∷ 96 ∷ 39 ∷ 40 ∷ 77 ∷ 84 ∷ 99 ∷ 100 ∷ 18 ∷
-    20 ∷ 48 ∷ 14 ∷ 41 ∷ 109 ∷ 42 ∷ 79 ∷ 101 ∷ 44 ∷ 115 ∷ 119 ∷ 49 ∷ 54 ∷ 56 ∷ 59 ∷ 60 ∷ 78 ∷ 15 ∷ 62 ∷ 121 ∷ 85 ∷ 102 ∷ 117 ∷ 106 ∷ 112 ∷ 126 ∷
-    16 ∷ 17 ∷ 92 ∷ 93 ∷ 113 ∷ 124 ∷ 4 ∷ 51 ∷ 124 ∷ 26 ∷ 74 ∷ 96 ∷ 11 ∷ 25 ∷ 125 ∷ 10 ∷ 104 ∷ 121 ∷ 7 ∷ 38 ∷ 52 ∷ 19 ∷ 24 ∷ 81 ∷ 44 ∷ 59 ∷ 105 ∷
-    2 ∷ 27 ∷ 30 ∷ 31 ∷ 41 ∷ 126 ∷ 6 ∷ 33 ∷ 82 ∷ 1 ∷ 85 ∷ 107 ∷ 23 ∷ 66 ∷ 109 ∷ 3 ∷ 12 ∷ 32 ∷ 5 ∷ 34 ∷ 42 ∷ 8 ∷ 89 ∷ 116 ∷ 35 ∷ 54 ∷ 127 ∷ 36 ∷
-    37 ∷ 63 ∷ 20 ∷ 53 ∷ 119 ∷ 0 ∷ 39 ∷ 67 ∷ 40 ∷ 55 ∷ 97 ∷ 13 ∷ 57 ∷ 75 ∷ 9 ∷ 76 ∷ 94 ∷ 43 ∷ 77 ∷ 98 ∷ 15 ∷ 78 ∷ 99 ∷ 14 ∷ 108 ∷ 123 ∷ 16 ∷ 45 ∷
-    83 ∷ 17 ∷ 48 ∷ 56 ∷ 18 ∷ 73 ∷ 84 ∷ 21 ∷ 71 ∷ 110 ∷ 22 ∷ 46 ∷ 65 ∷ 86 ∷ 90 ∷ 118 ∷ 28 ∷ 47 ∷ 93 ∷ 29 ∷ 58 ∷ 114 ∷ 49 ∷ 69 ∷ 112 ∷ 50 ∷ 72 ∷
-    91 ∷ 61 ∷ 106 ∷ 111 ∷ 60 ∷ 62 ∷ 68 ∷ 64 ∷ 70 ∷ 79 ∷ 80 ∷ 100 ∷ 117 ∷ 87 ∷ 101 ∷ 113 ∷ 88 ∷ 95 ∷ 102 ∷ 92 ∷ 103 ∷ 115 ∷ 43 ∷ 120 ∷ 122 ∷ 12 ∷
-    39 ∷ 73 ∷ 3 ∷ 63 ∷ 87 ∷ 27 ∷ 35 ∷ 74 ∷ 48 ∷ 75 ∷ 107 ∷ 19 ∷ 50 ∷ 113 ∷ 11 ∷ 16 ∷ 91 ∷ 9 ∷ 44 ∷ 79 ∷ 42 ∷ 64 ∷ 118 ∷ 49 ∷ 119 ∷ 122 ∷ 60 ∷ 66
-    ∷ 86 ∷ 13 ∷ 34 ∷ 65 ∷ 20 ∷ 98 ∷ 117 ∷ 10 ∷ 58 ∷ 80 ∷ 26 ∷ 40 ∷ 51 ∷ 0 ∷ 36 ∷ 88 ∷ 45 ∷ 89 ∷ 125 ∷ 4 ∷ 76 ∷ 126 ∷ 41 ∷ 77 ∷ 83 ∷ 22 ∷ 47 ∷ 67
-    ∷ 37 ∷ 54 ∷ 57 ∷ 23 ∷ 46 ∷ 101 ∷ 52 ∷ 104 ∷ 109 ∷ 21 ∷ 53 ∷ 124 ∷ 1 ∷ 92 ∷ 102 ∷ 14 ∷ 24 ∷ 121 ∷ 18 ∷ 90 ∷ 123 ∷ 5 ∷ 25 ∷ 28 ∷ 2 ∷ 6 ∷ 55 ∷
-    56 ∷ 111 ∷ 127 ∷ 7 ∷ 68 ∷ 103 ∷ 8 ∷ 93 ∷ 110 ∷ 15 ∷ 69 ∷ 82 ∷ 38 ∷ 71 ∷ 114 ∷ 17 ∷ 59 ∷ 61 ∷ 62 ∷ 70 ∷ 94 ∷ 29 ∷ 31 ∷ 32 ∷ 30 ∷ 95 ∷ 105 ∷
-    33 ∷ 72 ∷ 78 ∷ 81 ∷ 85 ∷ 115 ∷ 106 ∷ 116 ∷ 120 ∷ 84 ∷ 96 ∷ 97 ∷ 99 ∷ 108 ∷ 112 ∷ 72 ∷ 81 ∷ 100 ∷ 46 ∷ 71 ∷ 119 ∷ 29 ∷ 104 ∷ 105 ∷ 9 ∷ 35 ∷
-    73 ∷ 101 ∷ 107 ∷ 114 ∷ 0 ∷ 48 ∷ 102 ∷ 47 ∷ 68 ∷ 85 ∷ 40 ∷ 59 ∷ 87 ∷ 1 ∷ 33 ∷ 127 ∷ 11 ∷ 58 ∷ 120 ∷ 49 ∷ 55 ∷ 94 ∷ 10 ∷ 19 ∷ 66 ∷ 24 ∷ 83 ∷
-    88 ∷ 20 ∷ 21 ∷ 95 ∷ 34 ∷ 91 ∷ 96 ∷ 39 ∷ 60 ∷ 115 ∷ 28 ∷ 116 ∷ 121 ∷ 18 ∷ 51 ∷ 86 ∷ 52 ∷ 56 ∷ 122 ∷ 12 ∷ 14 ∷ 53 ∷ 50 ∷ 110 ∷ 126 ∷ 13 ∷ 17 ∷
-    98 ∷ 2 ∷ 32 ∷ 41 ∷ 61 ∷ 69 ∷ 93 ∷ 3 ∷ 15 ∷ 74 ∷ 16 ∷ 36 ∷ 90 ∷ 22 ∷ 30 ∷ 54 ∷ 7 ∷ 97 ∷ 125 ∷ 100 ∷ 112 ∷ 123 ∷ 31 ∷ 75 ∷ 92 ∷ 25 ∷ 27 ∷ 82 ∷
-    5 ∷ 23 ∷ 37 ∷ 99 ∷ 103 ∷ 117 ∷ 6 ∷ 57 ∷ 63 ∷ 8 ∷ 106 ∷ 113 ∷ 26 ∷ 108 ∷ 118 ∷ 4 ∷ 38 ∷ 62 ∷ 64 ∷ 89 ∷ 109 ∷ 65 ∷ 67 ∷ 111 ∷ 42 ∷ 43 ∷ 124 ∷
-    44 ∷ 70 ∷ 76 ∷ 45 ∷ 77 ∷ 78 ∷ 79 ∷ 80 ∷ 84 ∷ []
-
-unfoldable pub checkStarts : List ℕ
-checkStarts =
+unfoldable pub checkStarts2 : List ℕ
+checkStarts2 =
     0 ∷ 10 ∷ 21 ∷ 32 ∷ 43 ∷ 54 ∷ 65 ∷ 76 ∷ 87 ∷ 98 ∷ 109 ∷ 120 ∷ 131 ∷ 142 ∷ 153 ∷ 164 ∷ 175 ∷ 186 ∷ 197 ∷ 208 ∷ 219 ∷ 230 ∷ 241 ∷ 252 ∷ 263 ∷
     274 ∷ 285 ∷ 296 ∷ 307 ∷ 318 ∷ 329 ∷ 340 ∷ 351 ∷ 362 ∷ 373 ∷ 384 ∷ 395 ∷ 406 ∷ 417 ∷ 428 ∷ 439 ∷ 450 ∷ 461 ∷ 472 ∷ 483 ∷ 494 ∷ 505 ∷ 516 ∷
     527 ∷ 538 ∷ 549 ∷ 560 ∷ 571 ∷ 582 ∷ 593 ∷ 604 ∷ 615 ∷ 626 ∷ 637 ∷ 648 ∷ 659 ∷ 670 ∷ 681 ∷ 692 ∷ 703 ∷ 714 ∷ 725 ∷ 736 ∷ 747 ∷ 758 ∷ 769 ∷
@@ -68,8 +18,8 @@ checkStarts =
     1033 ∷ 1044 ∷ 1055 ∷ 1066 ∷ 1077 ∷ 1088 ∷ 1099 ∷ 1110 ∷ 1121 ∷ 1132 ∷ 1143 ∷ 1154 ∷ 1165 ∷ 1176 ∷ 1187 ∷ 1198 ∷ 1209 ∷ 1220 ∷ 1231 ∷ 1242 ∷
     1253 ∷ 1264 ∷ 1275 ∷ 1286 ∷ 1297 ∷ 1308 ∷ 1319 ∷ 1330 ∷ 1341 ∷ 1352 ∷ 1363 ∷ 1374 ∷ 1385 ∷ 1396 ∷ 1407 ∷ []
 
-unfoldable pub checkBits : List ℕ
-checkBits =
+unfoldable pub checkBits2 : List ℕ
+checkBits2 =
     26 ∷ 44 ∷ 99 ∷ 167 ∷ 172 ∷ 219 ∷ 274 ∷ 313 ∷ 346 ∷ 384 ∷ 8 ∷ 47 ∷ 113 ∷ 168 ∷ 176 ∷ 226 ∷ 266 ∷ 322 ∷ 349 ∷ 385 ∷ 384 ∷ 4 ∷ 65 ∷ 114 ∷ 170 ∷
     177 ∷ 213 ∷ 263 ∷ 326 ∷ 363 ∷ 386 ∷ 385 ∷ 30 ∷ 72 ∷ 108 ∷ 170 ∷ 191 ∷ 234 ∷ 268 ∷ 300 ∷ 365 ∷ 387 ∷ 386 ∷ 2 ∷ 71 ∷ 90 ∷ 130 ∷ 179 ∷ 237 ∷
     256 ∷ 315 ∷ 377 ∷ 388 ∷ 387 ∷ 20 ∷ 68 ∷ 93 ∷ 133 ∷ 184 ∷ 226 ∷ 269 ∷ 325 ∷ 372 ∷ 389 ∷ 388 ∷ 33 ∷ 84 ∷ 94 ∷ 130 ∷ 195 ∷ 238 ∷ 265 ∷ 326 ∷
@@ -130,8 +80,8 @@ checkBits =
     258 ∷ 314 ∷ 368 ∷ 509 ∷ 508 ∷ 19 ∷ 43 ∷ 87 ∷ 143 ∷ 178 ∷ 253 ∷ 264 ∷ 315 ∷ 361 ∷ 510 ∷ 509 ∷ 13 ∷ 56 ∷ 104 ∷ 154 ∷ 187 ∷ 214 ∷ 271 ∷ 327 ∷
     349 ∷ 511 ∷ 510 ∷ []
 
-unfoldable pub edgeStarts : List ℕ
-edgeStarts =
+unfoldable pub edgeStarts2 : List ℕ
+edgeStarts2 =
     0 ∷ 3 ∷ 6 ∷ 9 ∷ 12 ∷ 15 ∷ 18 ∷ 21 ∷ 24 ∷ 27 ∷ 30 ∷ 33 ∷ 36 ∷ 39 ∷ 42 ∷ 45 ∷ 48 ∷ 51 ∷ 54 ∷ 57 ∷ 60 ∷ 63 ∷ 66 ∷ 69 ∷ 72 ∷ 75 ∷ 78 ∷ 81 ∷ 84 ∷
     87 ∷ 90 ∷ 93 ∷ 96 ∷ 99 ∷ 102 ∷ 105 ∷ 108 ∷ 111 ∷ 114 ∷ 117 ∷ 120 ∷ 123 ∷ 126 ∷ 129 ∷ 132 ∷ 135 ∷ 138 ∷ 141 ∷ 144 ∷ 147 ∷ 150 ∷ 153 ∷ 156 ∷
     159 ∷ 162 ∷ 165 ∷ 168 ∷ 171 ∷ 174 ∷ 177 ∷ 180 ∷ 183 ∷ 186 ∷ 189 ∷ 192 ∷ 195 ∷ 198 ∷ 201 ∷ 204 ∷ 207 ∷ 210 ∷ 213 ∷ 216 ∷ 219 ∷ 222 ∷ 225 ∷
@@ -157,8 +107,8 @@ edgeStarts =
     ∷ 1364 ∷ 1366 ∷ 1368 ∷ 1370 ∷ 1372 ∷ 1374 ∷ 1376 ∷ 1378 ∷ 1380 ∷ 1382 ∷ 1384 ∷ 1386 ∷ 1388 ∷ 1390 ∷ 1392 ∷ 1394 ∷ 1396 ∷ 1398 ∷ 1400 ∷ 1402
     ∷ 1404 ∷ 1406 ∷ 1407 ∷ []
 
-unfoldable pub edges : List ℕ
-edges =
+unfoldable pub edges2 : List ℕ
+edges2 =
     648 ∷ 780 ∷ 1121 ∷ 626 ∷ 813 ∷ 934 ∷ 43 ∷ 373 ∷ 1242 ∷ 197 ∷ 703 ∷ 758 ∷ 21 ∷ 252 ∷ 714 ∷ 824 ∷ 1231 ∷ 1253 ∷ 791 ∷ 1055 ∷ 1176 ∷ 846 ∷ 879
     ∷ 989 ∷ 10 ∷ 142 ∷ 208 ∷ 109 ∷ 1000 ∷ 1066 ∷ 659 ∷ 1022 ∷ 1165 ∷ 406 ∷ 967 ∷ 1011 ∷ 1044 ∷ 1077 ∷ 1308 ∷ 1209 ∷ 1341 ∷ 1396 ∷ 285 ∷ 802 ∷
     945 ∷ 450 ∷ 923 ∷ 1264 ∷ 351 ∷ 769 ∷ 912 ∷ 725 ∷ 736 ∷ 1143 ∷ 384 ∷ 417 ∷ 1319 ∷ 901 ∷ 1132 ∷ 1385 ∷ 54 ∷ 637 ∷ 1033 ∷ 428 ∷ 747 ∷ 1088 ∷
@@ -223,41 +173,32 @@ edges =
     1229 ∷ 1241 ∷ 1240 ∷ 1252 ∷ 1251 ∷ 1263 ∷ 1262 ∷ 1274 ∷ 1273 ∷ 1285 ∷ 1284 ∷ 1296 ∷ 1295 ∷ 1307 ∷ 1306 ∷ 1318 ∷ 1317 ∷ 1329 ∷ 1328 ∷ 1340 ∷
     1339 ∷ 1351 ∷ 1350 ∷ 1362 ∷ 1361 ∷ 1373 ∷ 1372 ∷ 1384 ∷ 1383 ∷ 1395 ∷ 1394 ∷ 1406 ∷ 1405 ∷ []
 
--- the construction, computed
-made-right : made 384 128 0x4c44504335313202 .columns ≡ reverse (threes rows)
-unfolding draw xor mixed holds settled sorted insert upFrom firstOutside marked markedIf markedBy marksOf lessOf met scan foundIn quickSearch quickPick loaded quickFinished finished quickOnePick quickPicks quickColumn quickColumns quick rows threes
-made-right = sym (ap (λ (g : Made). g .columns) (agree 384 128 0x4c44504335313202 (omega arith))) ∙ refl
+columns-right2 : columns n512r34 ≡ threes rows2
+unfolding columns rows2 threes
+columns-right2 = ap reverse made-right2
 
-pub rows-right : rows ≡ messageRows n512r34
-unfolding rowsOf laidBefore rows threes
-rows-right = sym (ap (λ (cs : List (List ℕ)). laidBefore cs []) made-right)
-
-columns-right : columns n512r34 ≡ threes rows
-unfolding columns rows threes
-columns-right = ap reverse made-right
-
-checks-right : checks n512r34 ≡ rowsFrom 384 (threes rows) 0 128
+pub checks-right2 : checks n512r34 ≡ checkRows 384 (threes rows2) 0 128
 unfolding checks
-checks-right = rw columns-right
+checks-right2 = rw columns-right2
 
-pub check-bits-right : checkBits ≡ joined (checks n512r34)
-unfolding checkBits joined rowsFrom checkRow taps parityEntries holds rows threes
-check-bits-right = sym (ap joined checks-right)
+pub check-bits-right2 : checkBits2 ≡ joined (checks n512r34)
+unfolding checkBits2 joined checkRows checkRow taps parityEntries holds rows2 threes
+check-bits-right2 = sym (ap joined checks-right2)
 
-pub check-starts-right : checkStarts ≡ offsets (checks n512r34)
-unfolding checkStarts ends rowsFrom checkRow taps parityEntries holds rows threes
-check-starts-right = sym (ap offsets checks-right)
+pub check-starts-right2 : checkStarts2 ≡ offsets (checks n512r34)
+unfolding checkStarts2 ends checkRows checkRow taps parityEntries holds rows2 threes
+check-starts-right2 = sym (ap offsets checks-right2)
 
-edges-computed : edges ≡ joined (edgesFrom 0 512 checkBits)
-unfolding edges checkBits joined edgesFrom places
-edges-computed = refl
+edges-computed2 : edges2 ≡ joined (edgesFrom 0 512 checkBits2)
+unfolding edges2 checkBits2 joined edgesFrom places
+edges-computed2 = refl
 
-pub edges-right : edges ≡ joined (bitEdges 512 (checks n512r34))
-edges-right = edges-computed ∙ ap (λ (flat : List ℕ). joined (edgesFrom 0 512 flat)) check-bits-right
+pub edges-right2 : edges2 ≡ joined (bitEdges 512 (checks n512r34))
+edges-right2 = edges-computed2 ∙ ap (λ (flat : List ℕ). joined (edgesFrom 0 512 flat)) check-bits-right2
 
-edge-starts-computed : edgeStarts ≡ offsets (edgesFrom 0 512 checkBits)
-unfolding edgeStarts checkBits ends edgesFrom places
-edge-starts-computed = refl
+edge-starts-computed2 : edgeStarts2 ≡ offsets (edgesFrom 0 512 checkBits2)
+unfolding edgeStarts2 checkBits2 ends edgesFrom places
+edge-starts-computed2 = refl
 
-pub edge-starts-right : edgeStarts ≡ offsets (bitEdges 512 (checks n512r34))
-edge-starts-right = edge-starts-computed ∙ ap (λ (flat : List ℕ). offsets (edgesFrom 0 512 flat)) check-bits-right
+pub edge-starts-right2 : edgeStarts2 ≡ offsets (bitEdges 512 (checks n512r34))
+edge-starts-right2 = edge-starts-computed2 ∙ ap (λ (flat : List ℕ). offsets (edgesFrom 0 512 flat)) check-bits-right2

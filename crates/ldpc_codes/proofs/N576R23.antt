@@ -1,68 +1,16 @@
--- The tables of N576R23, which are what the construction gives: the rows by computing the construction's quick form, the rest from the rows.
+-- The tables of N576R23, which hold its checks and each bit's edges: computed from the rows of its message columns.
 use mathlib.Core.Path.{_≡_, refl, sym, ap, _∙_}
 use mathlib.Core.List.{List, [], _∷_, reverse}
 use Prim.Native.Nat.{ℕ}
-use native.Mathlib.Omega.{arith}
-use Rattle.construction.specs.Draw.{draw, xor, mixed}
-use Rattle.construction.specs.Columns.{Made, holds, settled, sorted, insert, upFrom, firstOutside, finished, made, rowsOf, laidBefore}
-use Rattle.construction.specs.Quick.{marked, markedIf, markedBy, marksOf, lessOf, met, scan, foundIn, quickSearch, quickPick, loaded, quickOnePick, quickPicks, quickFinished, quickColumn, quickColumns, quick}
-use Rattle.construction.specs.Codes.{n576r23, messageRows}
-use Rattle.construction.proofs.Agree.{agree}
+use Rattle.construction.specs.Columns.{holds}
+use Rattle.construction.specs.Codes.{n576r23}
 use Rattle.tanner.specs.Flat.{joined, ends, offsets, places, edgesFrom, bitEdges}
-use Rattle.ldpc_codes.specs.Staircase.{taps, parityEntries, checkRow, rowsFrom}
+use Rattle.ldpc_codes.specs.Staircase.{taps, parityEntries, checkRow, checkRows}
 use Rattle.ldpc_codes.specs.Codes.{columns, checks}
-use Rattle.ldpc_codes.proofs.Threes.{threes}
+use Rattle.ldpc_codes.proofs.Rows.{threes, rows1, made-right1}
 
-unfoldable pub rows : List ℕ
-rows =
-    37 ∷ 64 ∷ 133 ∷ 13 ∷ 123 ∷ 178 ∷ 49 ∷ 167 ∷ 177 ∷ 46 ∷ 59 ∷ 181 ∷ 11 ∷ 93 ∷ 98 ∷ 33 ∷ 150 ∷ 180 ∷ 2 ∷ 158 ∷ 173 ∷ 71 ∷ 117 ∷ 120 ∷ 17 ∷ 79 ∷
-    182 ∷ 44 ∷ 126 ∷ 186 ∷ 5 ∷ 86 ∷ 131 ∷ 91 ∷ 114 ∷ 125 ∷ 39 ∷ 52 ∷ 72 ∷ 34 ∷ 80 ∷ 121 ∷ 16 ∷ 66 ∷ 143 ∷ 50 ∷ 113 ∷ 164 ∷ 42 ∷ 155 ∷ 174 ∷ 18 ∷
-    51 ∷ 179 ∷ 4 ∷ 43 ∷ 154 ∷ 83 ∷ 112 ∷ 134 ∷ 12 ∷ 108 ∷ 116 ∷ 41 ∷ 70 ∷ 73 ∷ 35 ∷ 67 ∷ 103 ∷ 7 ∷ 20 ∷ 36 ∷ 183 ∷ 184 ∷ 187 ∷ 45 ∷ 135 ∷ 169 ∷
-    56 ∷ 165 ∷ 176 ∷ 24 ∷ 62 ∷ 139 ∷ 38 ∷ 40 ∷ 69 ∷ 47 ∷ 84 ∷ 124 ∷ 48 ∷ 74 ∷ 99 ∷ 127 ∷ 149 ∷ 156 ∷ 87 ∷ 104 ∷ 151 ∷ 76 ∷ 96 ∷ 175 ∷ 61 ∷ 75 ∷
-    189 ∷ 8 ∷ 53 ∷ 88 ∷ 26 ∷ 29 ∷ 81 ∷ 54 ∷ 89 ∷ 185 ∷ 63 ∷ 105 ∷ 188 ∷ 55 ∷ 136 ∷ 146 ∷ 57 ∷ 137 ∷ 172 ∷ 15 ∷ 58 ∷ 60 ∷ 3 ∷ 168 ∷ 190 ∷ 23 ∷ 77
-    ∷ 147 ∷ 21 ∷ 65 ∷ 170 ∷ 14 ∷ 106 ∷ 122 ∷ 31 ∷ 78 ∷ 191 ∷ 19 ∷ 82 ∷ 92 ∷ 6 ∷ 9 ∷ 68 ∷ 22 ∷ 85 ∷ 107 ∷ 27 ∷ 30 ∷ 32 ∷ 25 ∷ 90 ∷ 148 ∷ 94 ∷ 95
-    ∷ 97 ∷ 115 ∷ 128 ∷ 129 ∷ 100 ∷ 109 ∷ 171 ∷ 101 ∷ 110 ∷ 157 ∷ 0 ∷ 28 ∷ 102 ∷ 111 ∷ 118 ∷ 138 ∷ 1 ∷ 10 ∷ 119 ∷ 130 ∷ 132 ∷ 140 ∷ 141 ∷ 142 ∷
-    159 ∷ 144 ∷ 145 ∷ 152 ∷ 153 ∷ 160 ∷ 161 ∷ 162 ∷ 163 ∷ 166 ∷ 80 ∷ 106 ∷ 163 ∷ 84 ∷ 149 ∷ 169 ∷ 46 ∷ 47 ∷ 152 ∷ 100 ∷ 155 ∷ 166 ∷ 94 ∷ 151 ∷
-    183 ∷ 81 ∷ 117 ∷ 180 ∷ 22 ∷ 108 ∷ 164 ∷ 118 ∷ 150 ∷ 187 ∷ 36 ∷ 102 ∷ 171 ∷ 13 ∷ 66 ∷ 170 ∷ 35 ∷ 58 ∷ 86 ∷ 16 ∷ 74 ∷ 184 ∷ 8 ∷ 9 ∷ 67 ∷ 90 ∷
-    95 ∷ 133 ∷ 113 ∷ 162 ∷ 176 ∷ 19 ∷ 43 ∷ 101 ∷ 87 ∷ 132 ∷ 167 ∷ 53 ∷ 112 ∷ 119 ∷ 4 ∷ 142 ∷ 158 ∷ 40 ∷ 48 ∷ 93 ∷ 2 ∷ 96 ∷ 144 ∷ 78 ∷ 141 ∷ 168
-    ∷ 44 ∷ 51 ∷ 185 ∷ 17 ∷ 45 ∷ 153 ∷ 33 ∷ 110 ∷ 115 ∷ 6 ∷ 37 ∷ 114 ∷ 82 ∷ 121 ∷ 145 ∷ 97 ∷ 124 ∷ 125 ∷ 38 ∷ 116 ∷ 126 ∷ 0 ∷ 88 ∷ 156 ∷ 18 ∷ 120
-    ∷ 165 ∷ 103 ∷ 122 ∷ 130 ∷ 20 ∷ 70 ∷ 83 ∷ 57 ∷ 75 ∷ 85 ∷ 3 ∷ 131 ∷ 154 ∷ 21 ∷ 34 ∷ 123 ∷ 26 ∷ 127 ∷ 137 ∷ 5 ∷ 62 ∷ 128 ∷ 42 ∷ 98 ∷ 104 ∷ 76 ∷
-    172 ∷ 173 ∷ 49 ∷ 109 ∷ 160 ∷ 7 ∷ 59 ∷ 146 ∷ 10 ∷ 39 ∷ 61 ∷ 11 ∷ 23 ∷ 54 ∷ 63 ∷ 64 ∷ 186 ∷ 24 ∷ 52 ∷ 188 ∷ 41 ∷ 50 ∷ 177 ∷ 55 ∷ 129 ∷ 140 ∷
-    134 ∷ 174 ∷ 189 ∷ 12 ∷ 56 ∷ 107 ∷ 60 ∷ 77 ∷ 190 ∷ 65 ∷ 135 ∷ 191 ∷ 14 ∷ 105 ∷ 147 ∷ 1 ∷ 15 ∷ 91 ∷ 31 ∷ 68 ∷ 69 ∷ 25 ∷ 27 ∷ 28 ∷ 29 ∷ 30 ∷
-    175 ∷ 111 ∷ 136 ∷ 143 ∷ 71 ∷ 99 ∷ 138 ∷ 72 ∷ 92 ∷ 178 ∷ 32 ∷ 73 ∷ 179 ∷ 139 ∷ 181 ∷ 182 ∷ 148 ∷ 157 ∷ 161 ∷ 79 ∷ 89 ∷ 159 ∷ 48 ∷ 82 ∷ 190 ∷
-    8 ∷ 87 ∷ 164 ∷ 25 ∷ 167 ∷ 173 ∷ 35 ∷ 125 ∷ 139 ∷ 14 ∷ 23 ∷ 168 ∷ 15 ∷ 67 ∷ 186 ∷ 101 ∷ 122 ∷ 134 ∷ 38 ∷ 81 ∷ 121 ∷ 4 ∷ 120 ∷ 169 ∷ 58 ∷ 144
-    ∷ 174 ∷ 29 ∷ 109 ∷ 188 ∷ 53 ∷ 92 ∷ 154 ∷ 16 ∷ 37 ∷ 110 ∷ 30 ∷ 118 ∷ 166 ∷ 3 ∷ 31 ∷ 108 ∷ 10 ∷ 62 ∷ 104 ∷ 24 ∷ 55 ∷ 126 ∷ 46 ∷ 135 ∷ 162 ∷
-    114 ∷ 159 ∷ 178 ∷ 33 ∷ 91 ∷ 133 ∷ 9 ∷ 27 ∷ 136 ∷ 26 ∷ 59 ∷ 128 ∷ 131 ∷ 157 ∷ 175 ∷ 32 ∷ 115 ∷ 160 ∷ 69 ∷ 156 ∷ 191 ∷ 34 ∷ 124 ∷ 140 ∷ 105 ∷
-    123 ∷ 161 ∷ 13 ∷ 79 ∷ 177 ∷ 84 ∷ 111 ∷ 137 ∷ 0 ∷ 80 ∷ 170 ∷ 11 ∷ 39 ∷ 68 ∷ 40 ∷ 138 ∷ 187 ∷ 5 ∷ 44 ∷ 189 ∷ 6 ∷ 52 ∷ 63 ∷ 41 ∷ 106 ∷ 112 ∷ 12
-    ∷ 70 ∷ 145 ∷ 1 ∷ 83 ∷ 141 ∷ 2 ∷ 17 ∷ 171 ∷ 142 ∷ 172 ∷ 184 ∷ 36 ∷ 132 ∷ 158 ∷ 18 ∷ 176 ∷ 180 ∷ 45 ∷ 93 ∷ 143 ∷ 28 ∷ 88 ∷ 146 ∷ 107 ∷ 113 ∷
-    147 ∷ 42 ∷ 90 ∷ 94 ∷ 103 ∷ 149 ∷ 155 ∷ 7 ∷ 95 ∷ 116 ∷ 19 ∷ 165 ∷ 179 ∷ 117 ∷ 163 ∷ 181 ∷ 102 ∷ 119 ∷ 150 ∷ 20 ∷ 127 ∷ 182 ∷ 21 ∷ 43 ∷ 129 ∷
-    47 ∷ 75 ∷ 96 ∷ 22 ∷ 49 ∷ 148 ∷ 50 ∷ 183 ∷ 185 ∷ 51 ∷ 130 ∷ 153 ∷ 54 ∷ 56 ∷ 151 ∷ 57 ∷ 60 ∷ 152 ∷ 61 ∷ 89 ∷ 97 ∷ 64 ∷ 65 ∷ 66 ∷ 71 ∷ 72 ∷ 98
-    ∷ 73 ∷ 74 ∷ 76 ∷ 77 ∷ 78 ∷ 85 ∷ 86 ∷ 99 ∷ 100 ∷ 61 ∷ 95 ∷ 99 ∷ 71 ∷ 146 ∷ 173 ∷ 37 ∷ 45 ∷ 162 ∷ 63 ∷ 160 ∷ 171 ∷ 13 ∷ 30 ∷ 174 ∷ 38 ∷ 43 ∷
-    163 ∷ 14 ∷ 75 ∷ 175 ∷ 21 ∷ 64 ∷ 134 ∷ 128 ∷ 149 ∷ 152 ∷ 8 ∷ 36 ∷ 136 ∷ 52 ∷ 153 ∷ 159 ∷ 29 ∷ 31 ∷ 39 ∷ 40 ∷ 46 ∷ 127 ∷ 41 ∷ 49 ∷ 147 ∷ 77 ∷
-    161 ∷ 164 ∷ 168 ∷ 184 ∷ 189 ∷ 80 ∷ 91 ∷ 176 ∷ 42 ∷ 73 ∷ 142 ∷ 22 ∷ 32 ∷ 186 ∷ 55 ∷ 56 ∷ 57 ∷ 85 ∷ 114 ∷ 154 ∷ 15 ∷ 83 ∷ 155 ∷ 50 ∷ 101 ∷ 131
-    ∷ 84 ∷ 90 ∷ 129 ∷ 81 ∷ 165 ∷ 177 ∷ 51 ∷ 68 ∷ 144 ∷ 16 ∷ 86 ∷ 182 ∷ 33 ∷ 47 ∷ 94 ∷ 44 ∷ 74 ∷ 78 ∷ 112 ∷ 115 ∷ 166 ∷ 150 ∷ 156 ∷ 188 ∷ 87 ∷
-    124 ∷ 135 ∷ 48 ∷ 54 ∷ 88 ∷ 20 ∷ 58 ∷ 178 ∷ 0 ∷ 53 ∷ 110 ∷ 9 ∷ 59 ∷ 107 ∷ 1 ∷ 102 ∷ 180 ∷ 34 ∷ 125 ∷ 167 ∷ 23 ∷ 89 ∷ 148 ∷ 67 ∷ 70 ∷ 169 ∷
-    137 ∷ 158 ∷ 170 ∷ 26 ∷ 60 ∷ 72 ∷ 62 ∷ 76 ∷ 140 ∷ 10 ∷ 17 ∷ 105 ∷ 35 ∷ 106 ∷ 117 ∷ 24 ∷ 130 ∷ 172 ∷ 6 ∷ 103 ∷ 141 ∷ 11 ∷ 104 ∷ 143 ∷ 4 ∷ 92 ∷
-    121 ∷ 65 ∷ 69 ∷ 108 ∷ 66 ∷ 139 ∷ 157 ∷ 25 ∷ 93 ∷ 122 ∷ 79 ∷ 98 ∷ 109 ∷ 82 ∷ 111 ∷ 179 ∷ 18 ∷ 96 ∷ 191 ∷ 97 ∷ 181 ∷ 183 ∷ 3 ∷ 132 ∷ 133 ∷ 100
-    ∷ 151 ∷ 185 ∷ 2 ∷ 113 ∷ 187 ∷ 27 ∷ 138 ∷ 145 ∷ 28 ∷ 116 ∷ 118 ∷ 5 ∷ 12 ∷ 190 ∷ 7 ∷ 19 ∷ 119 ∷ 120 ∷ 123 ∷ 126 ∷ 81 ∷ 164 ∷ 173 ∷ 54 ∷ 75 ∷
-    129 ∷ 68 ∷ 101 ∷ 180 ∷ 16 ∷ 99 ∷ 151 ∷ 83 ∷ 153 ∷ 177 ∷ 59 ∷ 94 ∷ 100 ∷ 49 ∷ 86 ∷ 127 ∷ 12 ∷ 23 ∷ 124 ∷ 14 ∷ 24 ∷ 102 ∷ 77 ∷ 140 ∷ 149 ∷ 45
-    ∷ 48 ∷ 184 ∷ 41 ∷ 109 ∷ 185 ∷ 27 ∷ 103 ∷ 188 ∷ 139 ∷ 163 ∷ 171 ∷ 107 ∷ 141 ∷ 182 ∷ 11 ∷ 156 ∷ 162 ∷ 76 ∷ 186 ∷ 189 ∷ 8 ∷ 108 ∷ 165 ∷ 30 ∷ 85
-    ∷ 87 ∷ 20 ∷ 25 ∷ 120 ∷ 3 ∷ 44 ∷ 46 ∷ 152 ∷ 166 ∷ 172 ∷ 31 ∷ 47 ∷ 174 ∷ 21 ∷ 50 ∷ 126 ∷ 104 ∷ 167 ∷ 169 ∷ 7 ∷ 17 ∷ 110 ∷ 78 ∷ 98 ∷ 111 ∷ 6 ∷
-    13 ∷ 142 ∷ 60 ∷ 73 ∷ 168 ∷ 79 ∷ 90 ∷ 137 ∷ 28 ∷ 66 ∷ 134 ∷ 72 ∷ 128 ∷ 181 ∷ 32 ∷ 33 ∷ 105 ∷ 9 ∷ 119 ∷ 190 ∷ 69 ∷ 155 ∷ 175 ∷ 35 ∷ 148 ∷ 170
-    ∷ 19 ∷ 106 ∷ 176 ∷ 26 ∷ 62 ∷ 64 ∷ 121 ∷ 143 ∷ 178 ∷ 112 ∷ 130 ∷ 144 ∷ 34 ∷ 58 ∷ 82 ∷ 29 ∷ 51 ∷ 131 ∷ 52 ∷ 132 ∷ 179 ∷ 42 ∷ 80 ∷ 93 ∷ 43 ∷ 95
-    ∷ 183 ∷ 70 ∷ 114 ∷ 187 ∷ 84 ∷ 96 ∷ 150 ∷ 61 ∷ 154 ∷ 191 ∷ 0 ∷ 5 ∷ 157 ∷ 1 ∷ 113 ∷ 145 ∷ 36 ∷ 40 ∷ 53 ∷ 37 ∷ 55 ∷ 125 ∷ 22 ∷ 56 ∷ 67 ∷ 15 ∷
-    88 ∷ 122 ∷ 10 ∷ 115 ∷ 146 ∷ 2 ∷ 18 ∷ 133 ∷ 4 ∷ 38 ∷ 63 ∷ 39 ∷ 57 ∷ 89 ∷ 65 ∷ 71 ∷ 136 ∷ 74 ∷ 91 ∷ 97 ∷ 92 ∷ 116 ∷ 135 ∷ 117 ∷ 118 ∷ 147 ∷
-    123 ∷ 138 ∷ 158 ∷ 128 ∷ 159 ∷ 160 ∷ 55 ∷ 161 ∷ 171 ∷ 6 ∷ 62 ∷ 191 ∷ 0 ∷ 7 ∷ 50 ∷ 38 ∷ 159 ∷ 176 ∷ 47 ∷ 104 ∷ 162 ∷ 69 ∷ 126 ∷ 188 ∷ 78 ∷ 136
-    ∷ 161 ∷ 56 ∷ 108 ∷ 152 ∷ 17 ∷ 109 ∷ 150 ∷ 24 ∷ 53 ∷ 96 ∷ 45 ∷ 57 ∷ 63 ∷ 67 ∷ 137 ∷ 141 ∷ 70 ∷ 132 ∷ 173 ∷ 100 ∷ 107 ∷ 119 ∷ 98 ∷ 140 ∷ 158 ∷
-    8 ∷ 121 ∷ 123 ∷ 125 ∷ 127 ∷ 133 ∷ 52 ∷ 142 ∷ 189 ∷ 12 ∷ 49 ∷ 129 ∷ 61 ∷ 88 ∷ 112 ∷ 51 ∷ 65 ∷ 73 ∷ 95 ∷ 130 ∷ 180 ∷ 64 ∷ 79 ∷ 144 ∷ 21 ∷ 66 ∷
-    145 ∷ 151 ∷ 184 ∷ 186 ∷ 5 ∷ 58 ∷ 83 ∷ 11 ∷ 77 ∷ 113 ∷ 22 ∷ 131 ∷ 179 ∷ 13 ∷ 143 ∷ 172 ∷ 146 ∷ 147 ∷ 178 ∷ 15 ∷ 102 ∷ 139 ∷ 71 ∷ 85 ∷ 124 ∷
-    68 ∷ 135 ∷ 148 ∷ 29 ∷ 101 ∷ 103 ∷ 1 ∷ 20 ∷ 72 ∷ 14 ∷ 59 ∷ 120 ∷ 33 ∷ 54 ∷ 114 ∷ 9 ∷ 23 ∷ 60 ∷ 34 ∷ 74 ∷ 134 ∷ 90 ∷ 110 ∷ 138 ∷ 16 ∷ 111 ∷
-    157 ∷ 75 ∷ 115 ∷ 149 ∷ 25 ∷ 91 ∷ 153 ∷ 154 ∷ 156 ∷ 166 ∷ 18 ∷ 76 ∷ 155 ∷ 80 ∷ 84 ∷ 167 ∷ 81 ∷ 92 ∷ 160 ∷ 10 ∷ 82 ∷ 163 ∷ 19 ∷ 26 ∷ 86 ∷ 89 ∷
-    116 ∷ 164 ∷ 27 ∷ 165 ∷ 168 ∷ 87 ∷ 169 ∷ 170 ∷ 93 ∷ 174 ∷ 175 ∷ 35 ∷ 118 ∷ 177 ∷ 94 ∷ 117 ∷ 182 ∷ 97 ∷ 99 ∷ 105 ∷ 46 ∷ 122 ∷ 183 ∷ 106 ∷ 181
-    ∷ 185 ∷ 4 ∷ 187 ∷ 190 ∷ 2 ∷ 3 ∷ 28 ∷ 30 ∷ 31 ∷ 36 ∷ 32 ∷ 37 ∷ 39 ∷ 40 ∷ 41 ∷ 42 ∷ 43 ∷ 44 ∷ 48 ∷ []
-
-unfoldable pub checkStarts : List ℕ
-checkStarts =
+unfoldable pub checkStarts1 : List ℕ
+checkStarts1 =
     0 ∷ 7 ∷ 15 ∷ 23 ∷ 31 ∷ 39 ∷ 47 ∷ 55 ∷ 63 ∷ 71 ∷ 79 ∷ 87 ∷ 95 ∷ 103 ∷ 111 ∷ 119 ∷ 127 ∷ 135 ∷ 143 ∷ 151 ∷ 159 ∷ 167 ∷ 175 ∷ 183 ∷ 191 ∷ 199 ∷
     207 ∷ 215 ∷ 223 ∷ 231 ∷ 239 ∷ 247 ∷ 255 ∷ 263 ∷ 271 ∷ 279 ∷ 287 ∷ 295 ∷ 303 ∷ 311 ∷ 319 ∷ 327 ∷ 335 ∷ 343 ∷ 351 ∷ 359 ∷ 367 ∷ 375 ∷ 383 ∷
     391 ∷ 399 ∷ 407 ∷ 415 ∷ 423 ∷ 431 ∷ 439 ∷ 447 ∷ 455 ∷ 463 ∷ 471 ∷ 479 ∷ 487 ∷ 495 ∷ 503 ∷ 511 ∷ 519 ∷ 527 ∷ 535 ∷ 543 ∷ 551 ∷ 559 ∷ 567 ∷
@@ -73,8 +21,8 @@ checkStarts =
     1271 ∷ 1279 ∷ 1287 ∷ 1295 ∷ 1303 ∷ 1311 ∷ 1319 ∷ 1327 ∷ 1335 ∷ 1343 ∷ 1351 ∷ 1359 ∷ 1367 ∷ 1375 ∷ 1383 ∷ 1391 ∷ 1399 ∷ 1407 ∷ 1415 ∷ 1423 ∷
     1431 ∷ 1439 ∷ 1447 ∷ 1455 ∷ 1463 ∷ 1471 ∷ 1479 ∷ 1487 ∷ 1495 ∷ 1503 ∷ 1511 ∷ 1519 ∷ 1527 ∷ 1535 ∷ []
 
-unfoldable pub checkBits : List ℕ
-checkBits =
+unfoldable pub checkBits1 : List ℕ
+checkBits1 =
     56 ∷ 93 ∷ 157 ∷ 226 ∷ 304 ∷ 322 ∷ 384 ∷ 58 ∷ 117 ∷ 164 ∷ 228 ∷ 305 ∷ 354 ∷ 385 ∷ 384 ∷ 6 ∷ 84 ∷ 165 ∷ 250 ∷ 311 ∷ 379 ∷ 386 ∷ 385 ∷ 42 ∷ 98
     ∷ 142 ∷ 248 ∷ 276 ∷ 379 ∷ 387 ∷ 386 ∷ 18 ∷ 82 ∷ 136 ∷ 240 ∷ 312 ∷ 378 ∷ 388 ∷ 387 ∷ 10 ∷ 101 ∷ 160 ∷ 253 ∷ 304 ∷ 345 ∷ 389 ∷ 388 ∷ 48 ∷ 89 ∷
     161 ∷ 238 ∷ 283 ∷ 321 ∷ 390 ∷ 389 ∷ 23 ∷ 105 ∷ 174 ∷ 254 ∷ 281 ∷ 322 ∷ 391 ∷ 390 ∷ 35 ∷ 76 ∷ 129 ∷ 201 ∷ 273 ∷ 335 ∷ 392 ∷ 391 ∷ 48 ∷ 76 ∷
@@ -140,8 +88,8 @@ checkBits =
     569 ∷ 24 ∷ 71 ∷ 159 ∷ 250 ∷ 301 ∷ 378 ∷ 571 ∷ 570 ∷ 38 ∷ 109 ∷ 138 ∷ 222 ∷ 268 ∷ 325 ∷ 572 ∷ 571 ∷ 34 ∷ 112 ∷ 160 ∷ 207 ∷ 272 ∷ 337 ∷ 573 ∷
     572 ∷ 42 ∷ 114 ∷ 128 ∷ 253 ∷ 289 ∷ 378 ∷ 574 ∷ 573 ∷ 46 ∷ 115 ∷ 152 ∷ 246 ∷ 303 ∷ 321 ∷ 575 ∷ 574 ∷ []
 
-unfoldable pub edgeStarts : List ℕ
-edgeStarts =
+unfoldable pub edgeStarts1 : List ℕ
+edgeStarts1 =
     0 ∷ 3 ∷ 6 ∷ 9 ∷ 12 ∷ 15 ∷ 18 ∷ 21 ∷ 24 ∷ 27 ∷ 30 ∷ 33 ∷ 36 ∷ 39 ∷ 42 ∷ 45 ∷ 48 ∷ 51 ∷ 54 ∷ 57 ∷ 60 ∷ 63 ∷ 66 ∷ 69 ∷ 72 ∷ 75 ∷ 78 ∷ 81 ∷ 84 ∷
     87 ∷ 90 ∷ 93 ∷ 96 ∷ 99 ∷ 102 ∷ 105 ∷ 108 ∷ 111 ∷ 114 ∷ 117 ∷ 120 ∷ 123 ∷ 126 ∷ 129 ∷ 132 ∷ 135 ∷ 138 ∷ 141 ∷ 144 ∷ 147 ∷ 150 ∷ 153 ∷ 156 ∷
     159 ∷ 162 ∷ 165 ∷ 168 ∷ 171 ∷ 174 ∷ 177 ∷ 180 ∷ 183 ∷ 186 ∷ 189 ∷ 192 ∷ 195 ∷ 198 ∷ 201 ∷ 204 ∷ 207 ∷ 210 ∷ 213 ∷ 216 ∷ 219 ∷ 222 ∷ 225 ∷
@@ -170,8 +118,8 @@ edgeStarts =
     ∷ 1484 ∷ 1486 ∷ 1488 ∷ 1490 ∷ 1492 ∷ 1494 ∷ 1496 ∷ 1498 ∷ 1500 ∷ 1502 ∷ 1504 ∷ 1506 ∷ 1508 ∷ 1510 ∷ 1512 ∷ 1514 ∷ 1516 ∷ 1518 ∷ 1520 ∷ 1522
     ∷ 1524 ∷ 1526 ∷ 1528 ∷ 1530 ∷ 1532 ∷ 1534 ∷ 1535 ∷ []
 
-unfoldable pub edges : List ℕ
-edges =
+unfoldable pub edges1 : List ℕ
+edges1 =
     295 ∷ 511 ∷ 1063 ∷ 103 ∷ 983 ∷ 1423 ∷ 391 ∷ 1335 ∷ 1415 ∷ 367 ∷ 471 ∷ 1447 ∷ 87 ∷ 743 ∷ 783 ∷ 263 ∷ 1199 ∷ 1439 ∷ 15 ∷ 1263 ∷ 1383 ∷ 567 ∷
     935 ∷ 959 ∷ 135 ∷ 631 ∷ 1455 ∷ 351 ∷ 1007 ∷ 1487 ∷ 39 ∷ 687 ∷ 1047 ∷ 727 ∷ 911 ∷ 999 ∷ 311 ∷ 415 ∷ 575 ∷ 271 ∷ 639 ∷ 967 ∷ 127 ∷ 527 ∷ 1143
     ∷ 399 ∷ 903 ∷ 1311 ∷ 335 ∷ 1239 ∷ 1391 ∷ 143 ∷ 407 ∷ 1431 ∷ 31 ∷ 343 ∷ 1231 ∷ 663 ∷ 895 ∷ 1071 ∷ 95 ∷ 863 ∷ 927 ∷ 327 ∷ 559 ∷ 583 ∷ 279 ∷
@@ -243,41 +191,32 @@ edges =
     1454 ∷ 1453 ∷ 1462 ∷ 1461 ∷ 1470 ∷ 1469 ∷ 1478 ∷ 1477 ∷ 1486 ∷ 1485 ∷ 1494 ∷ 1493 ∷ 1502 ∷ 1501 ∷ 1510 ∷ 1509 ∷ 1518 ∷ 1517 ∷ 1526 ∷ 1525 ∷
     1534 ∷ 1533 ∷ []
 
--- the construction, computed
-made-right : made 384 192 0x4c44504335313201 .columns ≡ reverse (threes rows)
-unfolding draw xor mixed holds settled sorted insert upFrom firstOutside marked markedIf markedBy marksOf lessOf met scan foundIn quickSearch quickPick loaded quickFinished finished quickOnePick quickPicks quickColumn quickColumns quick rows threes
-made-right = sym (ap (λ (g : Made). g .columns) (agree 384 192 0x4c44504335313201 (omega arith))) ∙ refl
+columns-right1 : columns n576r23 ≡ threes rows1
+unfolding columns rows1 threes
+columns-right1 = ap reverse made-right1
 
-pub rows-right : rows ≡ messageRows n576r23
-unfolding rowsOf laidBefore rows threes
-rows-right = sym (ap (λ (cs : List (List ℕ)). laidBefore cs []) made-right)
-
-columns-right : columns n576r23 ≡ threes rows
-unfolding columns rows threes
-columns-right = ap reverse made-right
-
-checks-right : checks n576r23 ≡ rowsFrom 384 (threes rows) 0 192
+pub checks-right1 : checks n576r23 ≡ checkRows 384 (threes rows1) 0 192
 unfolding checks
-checks-right = rw columns-right
+checks-right1 = rw columns-right1
 
-pub check-bits-right : checkBits ≡ joined (checks n576r23)
-unfolding checkBits joined rowsFrom checkRow taps parityEntries holds rows threes
-check-bits-right = sym (ap joined checks-right)
+pub check-bits-right1 : checkBits1 ≡ joined (checks n576r23)
+unfolding checkBits1 joined checkRows checkRow taps parityEntries holds rows1 threes
+check-bits-right1 = sym (ap joined checks-right1)
 
-pub check-starts-right : checkStarts ≡ offsets (checks n576r23)
-unfolding checkStarts ends rowsFrom checkRow taps parityEntries holds rows threes
-check-starts-right = sym (ap offsets checks-right)
+pub check-starts-right1 : checkStarts1 ≡ offsets (checks n576r23)
+unfolding checkStarts1 ends checkRows checkRow taps parityEntries holds rows1 threes
+check-starts-right1 = sym (ap offsets checks-right1)
 
-edges-computed : edges ≡ joined (edgesFrom 0 576 checkBits)
-unfolding edges checkBits joined edgesFrom places
-edges-computed = refl
+edges-computed1 : edges1 ≡ joined (edgesFrom 0 576 checkBits1)
+unfolding edges1 checkBits1 joined edgesFrom places
+edges-computed1 = refl
 
-pub edges-right : edges ≡ joined (bitEdges 576 (checks n576r23))
-edges-right = edges-computed ∙ ap (λ (flat : List ℕ). joined (edgesFrom 0 576 flat)) check-bits-right
+pub edges-right1 : edges1 ≡ joined (bitEdges 576 (checks n576r23))
+edges-right1 = edges-computed1 ∙ ap (λ (flat : List ℕ). joined (edgesFrom 0 576 flat)) check-bits-right1
 
-edge-starts-computed : edgeStarts ≡ offsets (edgesFrom 0 576 checkBits)
-unfolding edgeStarts checkBits ends edgesFrom places
-edge-starts-computed = refl
+edge-starts-computed1 : edgeStarts1 ≡ offsets (edgesFrom 0 576 checkBits1)
+unfolding edgeStarts1 checkBits1 ends edgesFrom places
+edge-starts-computed1 = refl
 
-pub edge-starts-right : edgeStarts ≡ offsets (bitEdges 576 (checks n576r23))
-edge-starts-right = edge-starts-computed ∙ ap (λ (flat : List ℕ). offsets (edgesFrom 0 576 flat)) check-bits-right
+pub edge-starts-right1 : edgeStarts1 ≡ offsets (bitEdges 576 (checks n576r23))
+edge-starts-right1 = edge-starts-computed1 ∙ ap (λ (flat : List ℕ). offsets (edgesFrom 0 576 flat)) check-bits-right1

@@ -20,13 +20,13 @@ unfoldable pub checkRow : ℕ → List (List ℕ) → ℕ → List ℕ
 checkRow k cols i = taps i 0 cols ++ parityEntries k i
 
 -- n rows from row i on
-unfoldable pub rowsFrom : ℕ → List (List ℕ) → ℕ → ℕ → Checks
-rowsFrom k cols i zero = []
-rowsFrom k cols i (suc n) = checkRow k cols i ∷ rowsFrom k cols (suc i) n
+unfoldable pub checkRows : ℕ → List (List ℕ) → ℕ → ℕ → Checks
+checkRows k cols i zero = []
+checkRows k cols i (suc n) = checkRow k cols i ∷ checkRows k cols (suc i) n
 
 -- the m checks of a code with k message columns
 abbrev pub checksOf : ℕ → ℕ → List (List ℕ) → Checks
-checksOf k m cols = rowsFrom k cols 0 m
+checksOf k m cols = checkRows k cols 0 m
 
 -- n parity bits from row i on: each is the parity of the message bits in its row and of the parity bit before it, p
 unfoldable pub parityBits : List (List ℕ) → Word → ℕ → ℕ → ℕ → List ℕ
