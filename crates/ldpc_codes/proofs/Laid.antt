@@ -14,7 +14,7 @@ use Rattle.refusal.specs.Outcome.{Outcome, judged, kept}
 use Rattle.construction.specs.Columns.{made, nextColumn, finished}
 use Rattle.construction.specs.Codes.{Code}
 use Rattle.tanner.specs.Checks.{Checks, count, countMasked, lowBits}
-use Rattle.tanner.specs.Flat.{joined, offsets, cut, rowsFrom, rowsOf, Below, FlatChecks}
+use Rattle.tanner.specs.Flat.{joined, offsets, cut, rowsFrom, rowsOf, Below, Within, FlatChecks}
 use Rattle.tanner.proofs.Count.{low-count, count-bound, count-front}
 use Rattle.tanner.proofs.Flat.{rows-laid, flat-checks, all-below}
 use Rattle.tanner.proofs.Steps.{rows-more, rows-done}
@@ -44,6 +44,7 @@ pub two-short : (s : List ℕ) (c : ℕ) → c + 1 < length s → length (take (
 two-short s c h = omega (arith, two-length s c h)
 
 pub two-flat : (s f : List ℕ) (n c : ℕ) → c + 1 < length s → FlatChecks s f n → FlatChecks (take (c + 2 - c) (drop c s)) f n
+unfolding Within
 two-flat s f n c h flat = record {
   some = omega (arith, two-length s c h);
   few = omega (arith, two-length s c h);

@@ -9,10 +9,10 @@ use Rattle.ldpc.proofs.Arrays.{checkStart, checkBits, bitStart, bitEdge}
 use Rattle.ldpc.proofs.Graph as ft8
 use Rattle.decoders.proofs.Graphs.{ft8-graph}
 use borrow.Author.Needs.{needs}
-use Rattle.decoders.proofs.decode_ft8.Statement.{statement}
-use Rattle.decoders.proofs.decode_ft8.Tie as tie
-use Rattle.decoders.proofs.decode_ft8.Reads as reads
-use Rattle.decoders.proofs.decode_ft8.Lts as lts
+use Rattle.decoders.proofs.codes.decode_ft8.Statement.{statement}
+use Rattle.decoders.proofs.codes.decode_ft8.Tie as tie
+use Rattle.decoders.proofs.codes.decode_ft8.Reads as reads
+use Rattle.decoders.proofs.codes.decode_ft8.Lts as lts
 use Rattle.belief.proofs.decode.Reads as decode-reads
 
 slice-aggregate-decode : tie.Need-slice-aggregate-decode
@@ -29,7 +29,7 @@ slice-aggregate-decode-4 c = search needs
 
 decode-requires : tie.Need-decode-requires
 unfolding checkStart checkBits bitStart bitEdge
-decode-requires c κs = 
+decode-requires c κs =
     let start = c .before .before .before .before .before .before .before .before .before in
     (ft8-graph _ (start .pre .0), (omega arith, (omega arith, start .pre .1 .1)))
 
@@ -41,7 +41,7 @@ same-length-2 c = search needs
 
 returns : tie.Need-returns
 unfolding checkStart checkBits bitStart bitEdge
-returns c = 
+returns c =
     let done = c .before .before .before .before .decode in
     (chose-laid checks 174 checkStart checkBits bitStart bitEdge ft8.check-start ft8.check-bits ft8.bit-start ft8.bit-edges Ft8 Others _ _ _ _ _ (done .ensures .0) (done .ensures .1 .0), done .ensures .1 .1)
 
