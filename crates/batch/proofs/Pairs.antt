@@ -12,7 +12,7 @@ use lib.Seq.{drop-cons}
 use Rattle.refusal.specs.Outcome.{Outcome, accepted, refused, Condition, judged, _when_}
 use Rattle.batch.specs.Pairs.{Pair, pairsOf}
 use Rattle.batch.specs.Calls.{pairRefusals, AllWithin, none, more}
-use Rattle.batch.proofs.Judged.{passed-by, judged-past, judged-front}
+use Rattle.batch.proofs.Judged.{verdict, nothing, passed-by, judged-past, judged-front}
 
 -- ---- the pairs
 
@@ -54,25 +54,25 @@ pairs-next ns i h =
 abbrev pub pairTests : ℕ → ℕ → ℕ → ℕ → ℕ → List Condition
 pairTests n values end offset size = (10 when not (eqb size n)) ∷ (11 when ltb offset end) ∷ (12 when ltb values (offset + size)) ∷ []
 
-module _ (n values end : ℕ) (ns : List ℕ) (i : ℕ) (h : i + 1 < length ns) (z : Outcome Unit) (e : judged (pairRefusals n values end (pairsOf (drop i ns))) tt ≡ z) where
-  opened : judged (pairTests n values end (getD ns i 0) (getD ns (i + 1) 0) ++ pairRefusals n values (getD ns i 0 + getD ns (i + 1) 0) (pairsOf (drop (i + 2) ns))) tt ≡ z
+module _ (n values end : ℕ) (ns : List ℕ) (i : ℕ) (h : i + 1 < length ns) (z : Outcome Unit) (e : verdict (pairRefusals n values end (pairsOf (drop i ns))) ≡ z) where
+  opened : verdict (pairTests n values end (getD ns i 0) (getD ns (i + 1) 0) ++ pairRefusals n values (getD ns i 0 + getD ns (i + 1) 0) (pairsOf (drop (i + 2) ns))) ≡ z
   unfolding pairRefusals
   opened = rw (pairs-next ns i h) at e
 
-  pub pair-good : judged (pairTests n values end (getD ns i 0) (getD ns (i + 1) 0)) tt ≡ accepted tt
+  pub pair-good : verdict (pairTests n values end (getD ns i 0) (getD ns (i + 1) 0)) ≡ nothing
       → judged (pairRefusals n values (getD ns i 0 + getD ns (i + 1) 0) (pairsOf (drop (i + 2) ns))) tt ≡ z
   pair-good g = sym (judged-past (pairTests n values end (getD ns i 0) (getD ns (i + 1) 0)) _ tt g) ∙ opened
 
-  pub pair-bad : (k : ℕ) → judged (pairTests n values end (getD ns i 0) (getD ns (i + 1) 0)) tt ≡ refused k → refused k ≡ z
+  pub pair-bad : (k : ℕ) → verdict (pairTests n values end (getD ns i 0) (getD ns (i + 1) 0)) ≡ refused k → refused k ≡ z
   pair-bad k g = sym (judged-front (pairTests n values end (getD ns i 0) (getD ns (i + 1) 0)) _ tt k g) ∙ opened
 
-pub pairs-good : (n values end : ℕ) (ns : List ℕ) (i : ℕ) (z : Outcome Unit) → length ns ≤ i + 1 → judged (pairRefusals n values end (pairsOf (drop i ns))) tt ≡ z → accepted tt ≡ z
+pub pairs-good : (n values end : ℕ) (ns : List ℕ) (i : ℕ) (z : Outcome Unit) → length ns ≤ i + 1 → verdict (pairRefusals n values end (pairsOf (drop i ns))) ≡ z → nothing ≡ z
 unfolding pairRefusals
 pairs-good n values end ns i z h e = rw (pairs-done ns i h) at e
 
 -- ---- accepted pairs lie within the values
 
-pub all-within : (n values end : ℕ) (ps : List Pair) → judged (pairRefusals n values end ps) tt ≡ accepted tt → AllWithin n values ps
+pub all-within : (n values end : ℕ) (ps : List Pair) → verdict (pairRefusals n values end ps) ≡ nothing → AllWithin n values ps
 unfolding pairRefusals
 all-within n values end [] e = none
 all-within n values end (p ∷ ps) e =

@@ -26,7 +26,8 @@ pub record Batch : Type 0 where
   pub work : List Float
 
 abbrev pub Accepted : Batch → Type 0
-Accepted b = judged (batchRefusals (b .code) (b .rule) (b .values) (b .pairs) (b .bits) (b .counts) (b .work)) tt ≡ accepted tt
+Accepted b =
+    _≡_ {A = Outcome Unit} (judged (batchRefusals (b .code) (b .rule) (b .values) (b .pairs) (b .bits) (b .counts) (b .work)) tt) (accepted tt)
 
 -- how many frames it holds; the values of the frame at place j; the count and the message bits that the call gives for it
 abbrev pub frames : Batch → ℕ
@@ -53,7 +54,8 @@ pub record ByChosenWord (b : Batch) (j : ℕ) : Type 0 where
   pub chosen : FirstLeast (decodeAtPlace b j .checks) (words (decodeAtPlace b j) (b .limit)) word
   pub itsCount : countAt b j ≡ count (decodeAtPlace b j .checks) word
   pub itsBits : bitsAt b j ≡ take (sizeK (b .code)) word
-  pub codeword : b .code < 3 → (countAt b j ≡ 0) ↔ (word ≡ encodedBy (b .code) (bitsAt b j))
+  pub encoding : b .code < 3 → countAt b j ≡ 0 → word ≡ encodedBy (b .code) (bitsAt b j)
+  pub satisfied : b .code < 3 → word ≡ encodedBy (b .code) (bitsAt b j) → countAt b j ≡ 0
 
 -- "two accepted batches of one code, rule and scale with limits a ≤ b that hold one frame bit for bit, anywhere, whatever else they hold"
 pub record SameFrame (a b : Batch) (i j : ℕ) : Type 0 where

@@ -1,0 +1,1 @@
+-- The frames of a batch, one after another. Assumes nothing.
