@@ -66,3 +66,24 @@ many = refl
 
 pub flat : FlatChecks checkStart checkBits 174
 flat = rw (check-start, check-bits) (flat-checks checks 174 (omega (arith, many)) checks-low)
+
+-- what the decoder asks of its arrays, said of what lies in them
+
+pub few-checks : length checkStart ≤ 65536
+unfolding checkStart
+few-checks = omega arith
+
+pub few-edges : length checkBits ≤ 3070
+few-edges = omega (arith, size)
+
+pub starts-laid : checkStart ≡ offsets (rowsOf checkStart checkBits)
+starts-laid = check-start ∙ ap offsets (sym laid)
+
+pub positions-laid : checkBits ≡ joined (rowsOf checkStart checkBits)
+positions-laid = check-bits ∙ ap joined (sym laid)
+
+pub edge-starts-laid : bitStart ≡ offsets (bitEdges 174 (rowsOf checkStart checkBits))
+edge-starts-laid = bit-start ∙ ap (λ (cs : Checks). offsets (bitEdges 174 cs)) (sym laid)
+
+pub edges-laid : bitEdge ≡ joined (bitEdges 174 (rowsOf checkStart checkBits))
+edges-laid = bit-edges ∙ ap (λ (cs : Checks). joined (bitEdges 174 cs)) (sym laid)

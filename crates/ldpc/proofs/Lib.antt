@@ -4,3 +4,6 @@ pub mod Graph
 pub mod Parity
 pub mod Gather
 pub mod Codeword
+pub mod Agreement
+pub mod Counting
+pub mod Cases

@@ -4,3 +4,4 @@ pub mod Agreement
 pub mod Encoding
 pub mod Calls
 pub mod Bytes
+pub mod Cases
