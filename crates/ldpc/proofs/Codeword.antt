@@ -1,7 +1,6 @@
 -- The codeword byte by byte and bit by bit are the same: eleven bytes of the message, one shared, nine of eight parity bits, and the last six.
 -- By the laws of bits and of lists. Assumes nothing.
 use mathlib.Core.Path.{_≡_, refl, sym, ap, ap₂, _∙_}
-use mathlib.Core.Bool.{Bool, true, false, cond}
 use mathlib.Core.List.{List, [], _∷_, _++_, append-assoc}
 use Prim.Native.Nat.{ℕ, zero, suc, _+_, _-_, _*_, _/_, _%_, _^_, _<_, _≤_}
 use native.Mathlib.Nat.{zero-add}
@@ -10,11 +9,11 @@ use native.Mathlib.Omega.{arith}
 use borrow.Author.Tests.{lt-ltb, le-ltb, eq-eqb, ne-eqb}
 use lib.Bits.{bitOr, or-shifted}
 use lib.ListN.{length, getD, take, drop, replicate, length-append, length-take, List·getD-append, List·getD-eq-default, take-append-drop, drop-of-length-le}
-use lib.Seq.{take-at, drop-at, take-append-add, drop-append-add, getD-take, drop-cons, length-take-le, drop-drop, ext-getD, take-all}
+use lib.Seq.{take-at, drop-at, drop-append-add, getD-take, drop-cons, length-take-le, drop-drop, take-all}
 use Rattle.crc.specs.Bits.{bitsOf, bits, numberAfter, number, packed}
 use Rattle.crc.proofs.Digits.{Bytes, bits-length, bits-append, bitsOf-split, number-bits, number-append, packed-bits}
 use Rattle.ldpc.specs.Bytes.{parityAt, gathered, codeByte}
-use Rattle.ldpc.specs.Encoding.{rowsOfTwelve, parityBits, encodeBits, codewordOf}
+use Rattle.ldpc.specs.Encoding.{parityBits, encodeBits, codewordOf}
 use Rattle.ldpc.specs.Tables.{generator}
 use Rattle.ldpc.proofs.Gather.{run, run-length, run-split, number-lt, parity-bit, gathered-number, rows-parities}
 

@@ -1,12 +1,11 @@
 -- The four arrays of the source are the (174,91) code's checks and each position's edges, laid flat: by computation over all 522 edges.
 -- Assumes nothing.
 use mathlib.Core.Path.{_≡_, refl, sym, ap, ap₂, _∙_}
-use mathlib.Core.Bool.{Bool, true, false}
-use mathlib.Core.List.{List, [], _∷_, _++_, map}
-use Prim.Native.Nat.{ℕ, zero, suc, pred, _+_, _<_, _≤_}
+use mathlib.Core.List.{List}
+use Prim.Native.Nat.{ℕ, _≤_}
 use native.Mathlib.Omega.{arith}
 use lib.Dec.{ltb}
-use lib.ListN.{length, getD, take, drop}
+use lib.ListN.{length, getD}
 use borrow.Author.Tests.{ltb-true}
 use Rattle.tanner.specs.Checks.{Checks}
 use Rattle.tanner.specs.Flat.{joined, ends, offsets, rowsOf, Below, FlatChecks, places, edgesFrom, bitEdges}

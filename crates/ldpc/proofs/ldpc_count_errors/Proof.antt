@@ -1,6 +1,5 @@
 -- `ldpc::ldpc_count_errors` meets its contract: the arrays hold the check list, and mask 255 counts whole bytes.
 use mathlib.Core.Path.{ap}
-use Prim.Native.Nat.{ℕ}
 use native.Mathlib.Omega.{arith}
 use denote.Ref.{now}
 use borrow.Author.Needs.{needs}

@@ -1,6 +1,5 @@
 -- `ldpc::ldpc_encode` meets its contract: each refusal by the test that it makes, and the codeword byte by byte.
 use mathlib.Core.Path.{sym, _∙_}
-use Prim.Native.Nat.{ℕ}
 use native.Mathlib.Omega.{arith}
 use denote.Ref.{now}
 use borrow.Author.Tests.{eq-eqb, ne-eqb}
