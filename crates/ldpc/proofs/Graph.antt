@@ -1,12 +1,11 @@
 -- The four arrays of the source are the (174,91) code's checks and each position's edges, laid flat: by computation over all 522 edges.
 -- Assumes nothing.
 use mathlib.Core.Path.{_≡_, refl, sym, ap, ap₂, _∙_}
-use mathlib.Core.Bool.{Bool, true, false}
-use mathlib.Core.List.{List, [], _∷_, _++_, map}
-use Prim.Native.Nat.{ℕ, zero, suc, pred, _+_, _<_, _≤_}
+use mathlib.Core.List.{List}
+use Prim.Native.Nat.{ℕ, _≤_}
 use native.Mathlib.Omega.{arith}
 use lib.Dec.{ltb}
-use lib.ListN.{length, getD, take, drop}
+use lib.ListN.{length, getD}
 use borrow.Author.Tests.{ltb-true}
 use Rattle.tanner.specs.Checks.{Checks}
 use Rattle.tanner.specs.Flat.{joined, ends, offsets, rowsOf, Below, FlatChecks, places, edgesFrom, bitEdges}
@@ -66,3 +65,24 @@ many = refl
 
 pub flat : FlatChecks checkStart checkBits 174
 flat = rw (check-start, check-bits) (flat-checks checks 174 (omega (arith, many)) checks-low)
+
+-- what the decoder asks of its arrays, said of what lies in them
+
+pub few-checks : length checkStart ≤ 65536
+unfolding checkStart
+few-checks = omega arith
+
+pub few-edges : length checkBits ≤ 3070
+few-edges = omega (arith, size)
+
+pub starts-laid : checkStart ≡ offsets (rowsOf checkStart checkBits)
+starts-laid = check-start ∙ ap offsets (sym laid)
+
+pub positions-laid : checkBits ≡ joined (rowsOf checkStart checkBits)
+positions-laid = check-bits ∙ ap joined (sym laid)
+
+pub edge-starts-laid : bitStart ≡ offsets (bitEdges 174 (rowsOf checkStart checkBits))
+edge-starts-laid = bit-start ∙ ap (λ (cs : Checks). offsets (bitEdges 174 cs)) (sym laid)
+
+pub edges-laid : bitEdge ≡ joined (bitEdges 174 (rowsOf checkStart checkBits))
+edges-laid = bit-edges ∙ ap (λ (cs : Checks). joined (bitEdges 174 cs)) (sym laid)

@@ -1,17 +1,14 @@
 -- `ldpc::ldpc_count_errors` meets its contract: the arrays hold the check list, and mask 255 counts whole bytes.
-use mathlib.Core.Path.{ap, _∙_}
-use Prim.Native.Nat.{ℕ}
+use mathlib.Core.Path.{ap}
 use native.Mathlib.Omega.{arith}
 use denote.Ref.{now}
 use borrow.Author.Needs.{needs}
 use borrow.Author.Tests.{eq-eqb, ne-eqb}
 use Rattle.refusal.specs.Outcome.{accepted}
-use Rattle.tanner.specs.Checks.{Checks, countMasked}
-use Rattle.tanner.specs.Flat.{Below, FlatChecks}
-use Rattle.tanner.proofs.Count.{byte-count}
-use Rattle.ldpc.specs.Code174.{checks}
+use Rattle.tanner.specs.Flat.{Below}
 use Rattle.ldpc.proofs.Arrays.{checkStart, checkBits}
-use Rattle.ldpc.proofs.Graph.{flat, laid}
+use Rattle.ldpc.proofs.Counting.{bytes-counted}
+use Rattle.ldpc.proofs.Graph.{flat}
 use Rattle.ldpc.proofs.ldpc_count_errors.Statement.{statement}
 use Rattle.ldpc.proofs.ldpc_count_errors.Tie as tie
 
@@ -34,8 +31,7 @@ returns-2 c =
     let tested = c .before .before .before in
     let hard = now (tested .before .before .args .hard) in
     let bytes : Below 256 hard = λ k h. omega (arith, tested .before .shared-slice-known .given k) in
-    let counted = c .count-masked .ensures ∙ ap (λ (cs : Checks). countMasked 255 cs hard) laid ∙ byte-count checks hard bytes in
-    simp (eq-eqb _ _ (tested .if1 .left)) (ap accepted counted)
+    simp (eq-eqb _ _ (tested .if1 .left)) (ap accepted (bytes-counted hard (c .count-masked .result) bytes (c .count-masked .ensures)))
 
 pub ldpc-count-errors-spec : {M : Type 1} → statement M
 ldpc-count-errors-spec =
