@@ -5,3 +5,4 @@ pub mod Marks
 pub mod Picks
 pub mod Made
 pub mod Agree
+pub mod Different

@@ -68,7 +68,7 @@ unfolding insert
 insert-length r [] = refl
 insert-length r (q ∷ qs) = length-if (leb r q) _ _ _ refl (ap suc (insert-length r qs))
 
-sorted-length : (l : List ℕ) → length (sorted l) ≡ length l
+pub sorted-length : (l : List ℕ) → length (sorted l) ≡ length l
 unfolding sorted
 sorted-length [] = refl
 sorted-length (r ∷ rs) = insert-length r (sorted rs) ∙ ap suc (sorted-length rs)

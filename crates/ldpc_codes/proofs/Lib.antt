@@ -5,3 +5,4 @@ pub mod N512R34
 pub mod Codewords
 pub mod Laid
 pub mod Cases
+pub mod EdgeCount

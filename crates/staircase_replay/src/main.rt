@@ -111,10 +111,12 @@ fn replay_one() -> bool {
     if n < 576 {
         return false;
     }
-    let mut codeword = [0xFFu8; 576];
-    print_encoding(0, &word[0..256], &mut codeword[0..512]);
-    print_encoding(1, &word[0..384], &mut codeword[0..576]);
-    print_encoding(2, &word[0..384], &mut codeword[0..512]);
+    let mut first = [0xFFu8; 512];
+    print_encoding(0, &word[0..256], &mut first);
+    let mut second = [0xFFu8; 576];
+    print_encoding(1, &word[0..384], &mut second);
+    let mut third = [0xFFu8; 512];
+    print_encoding(2, &word[0..384], &mut third);
     print_weight(ldpc_codes::syndrome_weight(0, &word));
     print_weight(ldpc_codes::syndrome_weight(1, &word));
     print_weight(ldpc_codes::syndrome_weight(2, &word));
