@@ -1,1 +1,0 @@
--- The frames of a batch, one after another. Assumes nothing.

@@ -1,4 +1,0 @@
-pub mod Codes
-pub mod Pairs
-pub mod Calls
-pub mod Promise
