@@ -107,7 +107,7 @@ unfolding made nextColumn finished
 made-length zero m seed = refl
 made-length (suc k) m seed = ap suc (made-length k m seed)
 
-columns-length : (c : Code) → length (columns c) ≡ c .k
+pub columns-length : (c : Code) → length (columns c) ≡ c .k
 unfolding columns
 columns-length c = length-reverse (made (c .k) (c .m) (c .seed) .columns) ∙ made-length (c .k) (c .m) (c .seed)
 
