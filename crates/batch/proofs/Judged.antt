@@ -63,3 +63,8 @@ kept-accepted (c ∷ xs) old new e =
 pub kept-refused : {A : Type 0} (xs : List Condition) (old new : A) (k : ℕ) → verdict xs ≡ refused k → kept xs old new ≡ old
 kept-refused [] old new k e = let z : _≡_ {A = ℕ} 0 1 = cc in absurd (omega arith)
 kept-refused (c ∷ xs) old new k e = kept-front-by (c .holds) (c .number) k (verdict xs) old (kept xs old new) e (kept-refused xs old new k)
+
+-- where both runs are accepted, the second is
+pub accepted-rest : (xs ys : List Condition) → verdict (xs ++ ys) ≡ nothing → verdict ys ≡ nothing
+accepted-rest [] ys e = e
+accepted-rest (c ∷ xs) ys e = accepted-rest xs ys (passed-by (c .holds) (c .number) (verdict (xs ++ ys)) e .others)

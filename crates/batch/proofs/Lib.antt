@@ -3,3 +3,4 @@ pub mod Sizes
 pub mod Pairs
 pub mod Frames
 pub mod Whole
+pub mod Demand3

@@ -12,7 +12,7 @@ use Rattle.refusal.specs.Outcome.{Outcome, refused, Condition, judged, kept}
 use Rattle.batch.specs.Codes.{sizeN, sizeK}
 use Rattle.batch.specs.Pairs.{pairsOf}
 use Rattle.batch.specs.Calls.{ruleNotOfCode, headRefusals, pairRefusals, batchRefusals, AllWithin}
-use Rattle.batch.proofs.Judged.{verdict, nothing, passed-by, judged-past, judged-front, kept-refused, kept-accepted}
+use Rattle.batch.proofs.Judged.{verdict, nothing, passed-by, judged-past, judged-front, kept-refused, kept-accepted, accepted-rest}
 use Rattle.batch.proofs.Pairs.{pairs-length, all-within}
 
 -- what accepted numbers and lengths are
@@ -72,3 +72,11 @@ module _ (cs : List Condition) (bits newBits counts newCounts : List ℕ) (work 
   pub all-accepted : verdict cs ≡ nothing
       → (nothing ≡ verdict cs) × ((newBits ≡ kept cs bits newBits) × ((newCounts ≡ kept cs counts newCounts) × (newWork ≡ kept cs work newWork)))
   all-accepted v = (sym v, (sym (kept-accepted cs bits newBits v), (sym (kept-accepted cs counts newCounts v), sym (kept-accepted cs work newWork v))))
+
+-- an accepted batch's pairs lie within its values
+pub batch-within : (code rule : ℕ) (values : List Float) (pairs bits counts : List ℕ) (work : List Float)
+    → verdict (batchRefusals code rule values pairs bits counts work) ≡ nothing → AllWithin (sizeN code) (length values) (pairsOf pairs)
+unfolding batchRefusals
+batch-within code rule values pairs bits counts work e =
+    all-within (sizeN code) (length values) 0 (pairsOf pairs)
+    (accepted-rest (headRefusals code rule (length (pairsOf pairs)) (length bits) (length counts) (length work)) (pairRefusals (sizeN code) (length values) 0 (pairsOf pairs)) e)
