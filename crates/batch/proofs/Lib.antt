@@ -4,3 +4,4 @@ pub mod Pairs
 pub mod Frames
 pub mod Whole
 pub mod Demand3
+pub mod Cases

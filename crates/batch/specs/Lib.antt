@@ -2,3 +2,4 @@ pub mod Codes
 pub mod Pairs
 pub mod Calls
 pub mod Promise
+pub mod Cases

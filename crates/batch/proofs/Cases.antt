@@ -1,0 +1,107 @@
+-- The definitions yield each (P) case of document 01: the cases of the crates below, and (174,91)'s two decodes by computation. Assumes nothing.
+use mathlib.Core.Path.{_≡_, refl, sym, ap, _∙_}
+use mathlib.Core.List.{List, [], _∷_, map}
+use lib.Ieee.{Float, nan, neg, le, ofBits}
+use lib.ListN.{replicate}
+use Rattle.tanner.specs.Checks.{parity, count}
+use Rattle.softmath.specs.Functions.{decide}
+use Rattle.softmath.proofs.Cases.{min-sum-case}
+use Rattle.crc.proofs.Cases.{checksum-cases}
+use Rattle.ldpc.specs.Tables.{nm, numRows}
+use Rattle.ldpc.specs.Code174.{checks, rowsOfSeven}
+use Rattle.ldpc.proofs.Cases.{code-cases}
+use Rattle.ldpc_codes.proofs.Cases.{cases0, cases1, cases2}
+use Rattle.belief.specs.Rounds.{Decode, initialWord, wordsFrom, roundWords, chosenFrom, chosen, chosenCount, chosenBits}
+use Rattle.decoders.specs.Decodes.{ft8Decode}
+use Rattle.batch.specs.Cases.{minusZeros, nans, table, Yields}
+
+-- at limit 0 the initial word is chosen
+ones : chosenBits (ft8Decode minusZeros) 0 174 ≡ replicate 174 1
+unfolding chosenBits chosen roundWords wordsFrom chosenFrom initialWord decide neg le ofBits count parity checks rowsOfSeven nm numRows
+ones = refl
+
+ones-count : chosenCount (ft8Decode minusZeros) 0 ≡ 24
+unfolding chosenCount chosen roundWords wordsFrom chosenFrom initialWord decide neg le ofBits count parity checks rowsOfSeven nm numRows
+ones-count = refl
+
+zeros : chosenBits (ft8Decode nans) 0 174 ≡ replicate 174 0
+unfolding chosenBits chosen roundWords wordsFrom chosenFrom initialWord decide le ofBits count parity checks rowsOfSeven nm numRows
+zeros = refl
+
+zeros-count : chosenCount (ft8Decode nans) 0 ≡ 0
+unfolding chosenCount chosen roundWords wordsFrom chosenFrom initialWord decide le ofBits count parity checks rowsOfSeven nm numRows
+zeros-count = refl
+
+pub p-cases : Yields table
+p-cases =
+    let c = checksum-cases in
+    let l = code-cases in (
+      c .0,
+      (
+        c .1 .0,
+        (
+          c .1 .1 .0,
+          (
+            c .1 .1 .1 .0,
+            (
+              c .1 .1 .1 .1 .0,
+              (
+                l .0,
+                (
+                  l .1 .0,
+                  (
+                    l .1 .1 .0,
+                    (
+                      l .1 .1 .1 .0,
+                      (
+                        l .1 .1 .1 .1 .0,
+                        (
+                          ones,
+                          (
+                            ones-count,
+                            (
+                              zeros,
+                              (
+                                zeros-count,
+                                (
+                                  min-sum-case,
+                                  (
+                                    cases0 .lastBit,
+                                    (
+                                      cases0 .bitK,
+                                      (
+                                        cases0 .messageBit,
+                                        (
+                                          cases0 .byteTwo,
+                                          (
+                                            cases1 .lastBit,
+                                            (
+                                              cases1 .bitK,
+                                              (
+                                                cases1 .messageBit,
+                                                (
+                                                  cases1 .byteTwo,
+                                                  (cases2 .lastBit, (cases2 .bitK, (cases2 .messageBit, (cases2 .byteTwo, tt)))),
+                                                ),
+                                              ),
+                                            ),
+                                          ),
+                                        ),
+                                      ),
+                                    ),
+                                  ),
+                                ),
+                              ),
+                            ),
+                          ),
+                        ),
+                      ),
+                    ),
+                  ),
+                ),
+              ),
+            ),
+          ),
+        ),
+      ),
+    )

@@ -1,0 +1,78 @@
+-- Document 01's sample cases that are marked (P): one table of what the definitions give and what the document says.
+use mathlib.Core.Path.{_≡_}
+use mathlib.Core.List.{List, [], _∷_, _++_}
+use Prim.Native.Nat.{ℕ, _+_, _-_}
+use lib.Ieee.{Float, nan, binary32, neg, ofBits}
+use lib.ListN.{getD, replicate}
+use Rattle.crc.specs.Register.{crc14}
+use Rattle.crc.specs.Block.{carried}
+use Rattle.tanner.specs.Checks.{countBytes}
+use Rattle.softmath.specs.Single.{zero32, two32}
+use Rattle.softmath.specs.CheckNode.{checkStep}
+use Rattle.softmath.specs.declared.DecodeRule.the-variants.{MinSum}
+use Rattle.ldpc.specs.Code174.{checks}
+use Rattle.ldpc.specs.Encoding.{codewordOf}
+use Rattle.ldpc_codes.specs.Calls.{weightBy}
+use Rattle.belief.specs.Rounds.{chosenCount, chosenBits}
+use Rattle.decoders.specs.Decodes.{ft8Decode}
+
+pub record Entry : Type 1 where
+  pub Kind : Type 0
+  pub gives : Kind
+  pub says : Kind
+
+abbrev number : ℕ → ℕ → Entry
+number g s = record { Kind = ℕ; gives = g; says = s }
+
+abbrev bitsAre : List ℕ → List ℕ → Entry
+bitsAre g s = record { Kind = List ℕ; gives = g; says = s }
+
+abbrev floats : List Float → List Float → Entry
+floats g s = record { Kind = List Float; gives = g; says = s }
+
+-- a block whose bytes 9 to 11 are given, the bytes before them zero
+abbrev pub ending : List ℕ → List ℕ
+ending bs = replicate 9 0 ++ bs
+
+-- x at position p, zeros before it and n zeros after it
+abbrev pub alone : ℕ → ℕ → ℕ → List ℕ
+alone p x n = replicate p 0 ++ (x ∷ replicate n 0)
+
+abbrev pub minusZeros : List Float
+minusZeros = replicate 174 (neg zero32)
+
+abbrev pub nans : List Float
+nans = replicate 174 nan
+
+-- "Staircase count, last bit alone: 1. Bit K alone: 2. Message bit 0 alone: 3, but 0 if its byte is 2."
+abbrev staircase : ℕ → ℕ → ℕ → List Entry → List Entry
+staircase code k m rest =
+    number (weightBy code (alone (k + m - 1) 1 0)) 1
+    ∷ number (weightBy code (alone k 1 (m - 1))) 2
+    ∷ number (weightBy code (alone 0 1 (k + m - 1))) 3
+    ∷ number (weightBy code (alone 0 2 (k + m - 1))) 0
+    ∷ rest
+
+abbrev pub table : List Entry
+table =
+    number (crc14 [] 0) 0
+    ∷ number (crc14 (0x80 ∷ []) 1) 0x2757
+    ∷ number (crc14 (0x01 ∷ []) 1) 0x0080
+    ∷ number (carried (ending (0x07 ∷ 0xFF ∷ 0xE0 ∷ []))) 0x3FFF
+    ∷ number (carried (ending (0x00 ∷ 0x00 ∷ 0x1F ∷ []))) 0
+    ∷ number (getD (codewordOf (alone 0 0x80 11)) 11 0) 0x14
+    ∷ number (getD (codewordOf (alone 0 0x80 11)) 12 0) 0x14
+    ∷ number (countBytes checks (alone 0 1 173)) 3
+    ∷ number (countBytes checks (alone 0 2 173)) 3
+    ∷ number (countBytes checks (replicate 174 1)) 24
+    ∷ bitsAre (chosenBits (ft8Decode minusZeros) 0 174) (replicate 174 1)
+    ∷ number (chosenCount (ft8Decode minusZeros) 0) 24
+    ∷ bitsAre (chosenBits (ft8Decode nans) 0 174) (replicate 174 0)
+    ∷ number (chosenCount (ft8Decode nans) 0) 0
+    ∷ floats (checkStep MinSum (two32 ∷ neg (ofBits binary32 0x40400000) ∷ two32 ∷ nan ∷ [])) (neg two32 ∷ two32 ∷ neg two32 ∷ neg two32 ∷ [])
+    ∷ staircase 0 256 256 (staircase 1 384 192 (staircase 2 384 128 []))
+
+-- the definitions yield each entry
+abbrev pub Yields : List Entry → Type 0
+Yields [] = Unit
+Yields (e ∷ es) = (e .gives ≡ e .says) × Yields es
