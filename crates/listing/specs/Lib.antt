@@ -1,0 +1,4 @@
+pub mod Written
+pub mod Text
+pub mod Lines
+pub mod Input

@@ -1,0 +1,182 @@
+// The listing of a batch: the program's input read, and what is printed for it written into a lent buffer.
+ghost use mathlib.Core.Path.{_≡_};
+ghost use mathlib.Core.List.{_∷_, []};
+ghost use Prim.Native.Nat.{_+_, _*_, _<_, _≤_};
+ghost use lib.ListN.{length};
+ghost use Rattle.listing.specs.Written.{Written};
+ghost use Rattle.listing.specs.Text.{leading, decimal, bitAt, byteAt, hexDigit, hexByte, hex};
+ghost use Rattle.listing.specs.Lines.{headLine, cleanOrOpen, frameLine, frameLines, refusalLine};
+
+// ---- texts and numbers, each written at a place of the buffer; the answer is the place after it
+
+fn put_byte(out: &mut [u8], at: usize, byte: u8) -> usize
+    requires { ⌜ at < length (now out) ⌝ }
+    ensures { λ r. ⌜ Written (now (out .entry)) at (byte ∷ []) (now (out .exit)) r ⌝ }
+{
+    out[at] = byte;
+    at + 1
+}
+
+fn put_text(out: &mut [u8], at: usize, text: &[u8]) -> usize
+    requires { ⌜ at + length (now text) ≤ length (now out) ⌝ }
+    ensures { λ r. ⌜ Written (now (out .entry)) at (now (text .entry)) (now (out .exit)) r ⌝ }
+{
+    let mut next = at;
+    let mut i = 0;
+    while i < text.len() {
+        out[next] = text[i];
+        next += 1;
+        i += 1;
+    }
+    next
+}
+
+// The digit of weight p, unless the number is below p.
+fn put_leading(out: &mut [u8], at: usize, p: u16, n: u16) -> usize
+    requires { ⌜ 0 < p ⌝ }
+    requires { ⌜ at + length (leading p n) ≤ length (now out) ⌝ }
+    ensures { λ r. ⌜ Written (now (out .entry)) at (leading p n) (now (out .exit)) r ⌝ }
+{
+    if n < p {
+        return at;
+    }
+    let digit = n / p % 10;
+    put_byte(out, at, 48 + digit as u8)
+}
+
+fn put_decimal(out: &mut [u8], at: usize, n: u16) -> usize
+    requires { ⌜ at + length (decimal n) ≤ length (now out) ⌝ }
+    ensures { λ r. ⌜ Written (now (out .entry)) at (decimal n) (now (out .exit)) r ⌝ }
+{
+    let a = put_leading(out, at, 10000, n);
+    let b = put_leading(out, a, 1000, n);
+    let c = put_leading(out, b, 100, n);
+    let d = put_leading(out, c, 10, n);
+    let digit = n % 10;
+    put_byte(out, d, 48 + digit as u8)
+}
+
+// ---- bits
+
+// A bit, or a zero past the last.
+fn bit_at(bits: &[u8], i: usize) -> u8
+    ensures { λ r. ⌜ r ≡ bitAt (now (bits .entry)) i ⌝ }
+{
+    if i < bits.len() {
+        bits[i] % 2
+    } else {
+        0
+    }
+}
+
+// Eight bits as a byte.
+fn byte_at(bits: &[u8], i: usize) -> u8
+    requires { ⌜ i < length (now bits) ⌝ }
+    ensures { λ r. ⌜ r ≡ byteAt (now (bits .entry)) i ⌝ }
+{
+    128 * bit_at(bits, i)
+        + 64 * bit_at(bits, i + 1)
+        + 32 * bit_at(bits, i + 2)
+        + 16 * bit_at(bits, i + 3)
+        + 8 * bit_at(bits, i + 4)
+        + 4 * bit_at(bits, i + 5)
+        + 2 * bit_at(bits, i + 6)
+        + bit_at(bits, i + 7)
+}
+
+fn hex_digit(d: u8) -> u8
+    requires { ⌜ d < 16 ⌝ }
+    ensures { λ r. ⌜ r ≡ hexDigit d ⌝ }
+{
+    if d < 10 { 48 + d } else { 87 + d }
+}
+
+fn put_hex_byte(out: &mut [u8], at: usize, byte: u8) -> usize
+    requires { ⌜ at + 2 ≤ length (now out) ⌝ }
+    ensures { λ r. ⌜ Written (now (out .entry)) at (hexByte byte) (now (out .exit)) r ⌝ }
+{
+    let high = put_byte(out, at, hex_digit(byte / 16));
+    put_byte(out, high, hex_digit(byte % 16))
+}
+
+// Bits packed into bytes, in hexadecimal.
+fn put_hex(out: &mut [u8], at: usize, bits: &[u8]) -> usize
+    requires { ⌜ at + length (hex (now bits)) ≤ length (now out) ⌝ }
+    ensures { λ r. ⌜ Written (now (out .entry)) at (hex (now (bits .entry))) (now (out .exit)) r ⌝ }
+{
+    let mut next = at;
+    let mut i = 0;
+    while i < bits.len() {
+        let byte = byte_at(bits, i);
+        next = put_hex_byte(out, next, byte);
+        i += 8;
+    }
+    next
+}
+
+// ---- lines
+
+fn head_line(out: &mut [u8], at: usize, code: u16, rule: u16, limit: u16, frames: u16) -> usize
+    requires { ⌜ at + length (headLine code rule limit frames) ≤ length (now out) ⌝ }
+    ensures { λ r. ⌜ Written (now (out .entry)) at (headLine code rule limit frames) (now (out .exit)) r ⌝ }
+{
+    let a = put_text(out, at, b"code ");
+    let b = put_decimal(out, a, code);
+    let c = put_text(out, b, b" rule ");
+    let d = put_decimal(out, c, rule);
+    let e = put_text(out, d, b" limit ");
+    let f = put_decimal(out, e, limit);
+    let g = put_text(out, f, b" frames ");
+    let h = put_decimal(out, g, frames);
+    put_byte(out, h, 10)
+}
+
+fn clean_or_open(out: &mut [u8], at: usize, count: u16) -> usize
+    requires { ⌜ at + length (cleanOrOpen count) ≤ length (now out) ⌝ }
+    ensures { λ r. ⌜ Written (now (out .entry)) at (cleanOrOpen count) (now (out .exit)) r ⌝ }
+{
+    if count == 0 {
+        return put_text(out, at, b" clean ");
+    }
+    put_text(out, at, b" open ")
+}
+
+fn frame_line(out: &mut [u8], at: usize, place: u16, count: u16, bits: &[u8]) -> usize
+    requires { ⌜ at + length (frameLine place count (now bits)) ≤ length (now out) ⌝ }
+    ensures { λ r. ⌜ Written (now (out .entry)) at (frameLine place count (now (bits .entry))) (now (out .exit)) r ⌝ }
+{
+    let a = put_decimal(out, at, place);
+    let b = put_byte(out, a, 32);
+    let c = put_decimal(out, b, count);
+    let d = clean_or_open(out, c, count);
+    let e = put_hex(out, d, bits);
+    put_byte(out, e, 10)
+}
+
+// The lines of the frames, of k bits each.
+fn frame_lines(out: &mut [u8], at: usize, k: usize, counts: &[u16], bits: &[u8]) -> usize
+    requires { ⌜ length (now counts) ≤ 24 ⌝ }
+    requires { ⌜ length (now bits) ≡ length (now counts) * k ⌝ }
+    requires { ⌜ at + length (frameLines k 0 (now counts) (now bits)) ≤ length (now out) ⌝ }
+    ensures { λ r. ⌜ Written (now (out .entry)) at (frameLines k 0 (now (counts .entry)) (now (bits .entry))) (now (out .exit)) r ⌝ }
+{
+    let mut next = at;
+    let mut from = 0;
+    let mut j = 0;
+    while j < counts.len() {
+        let to = from + k;
+        next = frame_line(out, next, j as u16, counts[j], &bits[from..to]);
+        from = to;
+        j += 1;
+    }
+    next
+}
+
+fn refusal_line(out: &mut [u8], at: usize, number: u16) -> usize
+    requires { ⌜ at + length (refusalLine number) ≤ length (now out) ⌝ }
+    ensures { λ r. ⌜ Written (now (out .entry)) at (refusalLine number) (now (out .exit)) r ⌝ }
+{
+    let a = put_text(out, at, b"refused ");
+    let b = put_decimal(out, a, number);
+    put_byte(out, b, 10)
+}
