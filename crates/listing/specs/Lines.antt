@@ -45,9 +45,13 @@ newline = 10 ∷ []
 
 -- ---- lines
 
+-- a word and a number after it
+unfoldable pub field : List ℕ → ℕ → List ℕ
+field word n = word ++ decimal n
+
 -- "The head line repeats the numbers as given": `code 3 rule 0 limit 20 frames 1`
 unfoldable pub headLine : ℕ → ℕ → ℕ → ℕ → List ℕ
-headLine code rule limit frames = codeWord ++ (decimal code ++ (ruleWord ++ (decimal rule ++ (limitWord ++ (decimal limit ++ (framesWord ++ (decimal frames ++ newline)))))))
+headLine code rule limit frames = field codeWord code ++ (field ruleWord rule ++ (field limitWord limit ++ (field framesWord frames ++ newline)))
 
 -- "A frame is clean when its count is 0."
 unfoldable pub cleanOrOpen : ℕ → List ℕ
@@ -64,7 +68,7 @@ frameLines k place (count ∷ counts) bits = frameLine place count (take k bits)
 
 -- "A refusal prints only one line, as `refused 13`, with the number that applies."
 unfoldable pub refusalLine : ℕ → List ℕ
-refusalLine number = refusedWord ++ (decimal number ++ newline)
+refusalLine number = field refusedWord number ++ newline
 
 -- what is printed for an answer
 unfoldable pub printed : Outcome (List ℕ) → List ℕ

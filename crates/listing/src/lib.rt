@@ -5,7 +5,7 @@ ghost use Prim.Native.Nat.{_+_, _*_, _<_, _≤_};
 ghost use lib.ListN.{length};
 ghost use Rattle.listing.specs.Written.{Written};
 ghost use Rattle.listing.specs.Text.{leading, decimal, bitAt, byteAt, hexDigit, hexByte, hex};
-ghost use Rattle.listing.specs.Lines.{headLine, cleanOrOpen, frameLine, frameLines, refusalLine};
+ghost use Rattle.listing.specs.Lines.{field, headLine, cleanOrOpen, frameLine, frameLines, refusalLine};
 
 // ---- texts and numbers, each written at a place of the buffer; the answer is the place after it
 
@@ -116,19 +116,24 @@ fn put_hex(out: &mut [u8], at: usize, bits: &[u8]) -> usize
 
 // ---- lines
 
+// A word and a number after it.
+fn put_field(out: &mut [u8], at: usize, word: &[u8], n: u16) -> usize
+    requires { ⌜ at + length (field (now word) n) ≤ length (now out) ⌝ }
+    ensures { λ r. ⌜ Written (now (out .entry)) at (field (now (word .entry)) n) (now (out .exit)) r ⌝ }
+{
+    let a = put_text(out, at, word);
+    put_decimal(out, a, n)
+}
+
 fn head_line(out: &mut [u8], at: usize, code: u16, rule: u16, limit: u16, frames: u16) -> usize
     requires { ⌜ at + length (headLine code rule limit frames) ≤ length (now out) ⌝ }
     ensures { λ r. ⌜ Written (now (out .entry)) at (headLine code rule limit frames) (now (out .exit)) r ⌝ }
 {
-    let a = put_text(out, at, b"code ");
-    let b = put_decimal(out, a, code);
-    let c = put_text(out, b, b" rule ");
-    let d = put_decimal(out, c, rule);
-    let e = put_text(out, d, b" limit ");
-    let f = put_decimal(out, e, limit);
-    let g = put_text(out, f, b" frames ");
-    let h = put_decimal(out, g, frames);
-    put_byte(out, h, 10)
+    let a = put_field(out, at, b"code ", code);
+    let b = put_field(out, a, b" rule ", rule);
+    let c = put_field(out, b, b" limit ", limit);
+    let d = put_field(out, c, b" frames ", frames);
+    put_byte(out, d, 10)
 }
 
 fn clean_or_open(out: &mut [u8], at: usize, count: u16) -> usize
@@ -176,7 +181,6 @@ fn refusal_line(out: &mut [u8], at: usize, number: u16) -> usize
     requires { ⌜ at + length (refusalLine number) ≤ length (now out) ⌝ }
     ensures { λ r. ⌜ Written (now (out .entry)) at (refusalLine number) (now (out .exit)) r ⌝ }
 {
-    let a = put_text(out, at, b"refused ");
-    let b = put_decimal(out, a, number);
-    put_byte(out, b, 10)
+    let a = put_field(out, at, b"refused ", number);
+    put_byte(out, a, 10)
 }

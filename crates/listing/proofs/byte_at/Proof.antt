@@ -1,4 +1,5 @@
 -- `listing::byte_at` meets its contract. Each of the eight bits is 0 or 1. Assumes nothing.
+use Rattle.listing.specs.Text.{byteAt}
 use borrow.Author.Needs.{needs}
 use Rattle.listing.proofs.byte_at.Statement.{statement}
 use Rattle.listing.proofs.byte_at.Tie as tie

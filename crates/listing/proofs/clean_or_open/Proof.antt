@@ -1,3 +1,7 @@
+-- `listing::clean_or_open` meets its contract. A count of 0 is one branch, any other count the other. Assumes nothing.
+use native.Mathlib.Omega.{arith}
+use borrow.Author.Tests.{eq-eqb, ne-eqb}
+use Rattle.listing.specs.Lines.{cleanOrOpen}
 use borrow.Author.Needs.{needs}
 use Rattle.listing.proofs.clean_or_open.Statement.{statement}
 use Rattle.listing.proofs.clean_or_open.Tie as tie
@@ -5,37 +9,33 @@ use Rattle.listing.proofs.clean_or_open.Reads as reads
 use Rattle.listing.proofs.clean_or_open.Lts as lts
 use Rattle.listing.proofs.put_text.Reads as put-text-reads
 
--- src/lib.rt:139:34
 slice-aggregate-put-text : tie.Need-slice-aggregate-put-text
 slice-aggregate-put-text c = search needs
 
--- src/lib.rt:139:9
 put-text-requires : tie.Need-put-text-requires
-put-text-requires c κs = search needs
+unfolding cleanOrOpen
+put-text-requires c κs = rw (eq-eqb (c .before .before .before .before .args .count) 0 (c .before .before .if1 .taken)) at (c .before .before .before .before .pre)
 
--- src/lib.rt:139:9
 same-length : tie.Need-same-length
 same-length c = search needs
 
--- src/lib.rt:139:9
 returns : tie.Need-returns
-returns c = search needs
+unfolding cleanOrOpen
+returns c = rw (eq-eqb (c .before .before .before .before .before .before .before .args .count) 0 (c .before .before .before .before .before .if1 .taken)) (c .before .before .put-text .ensures)
 
--- src/lib.rt:141:23
 slice-aggregate-put-text-2 : tie.Need-slice-aggregate-put-text-2
 slice-aggregate-put-text-2 c = search needs
 
--- src/lib.rt:141:5
 put-text-requires-2 : tie.Need-put-text-requires-2
-put-text-requires-2 c κs = search needs
+unfolding cleanOrOpen
+put-text-requires-2 c κs = rw (ne-eqb (c .before .before .before .before .args .count) 0 (c .before .before .if1 .left)) at (c .before .before .before .before .pre)
 
--- src/lib.rt:134:1
 same-length-2 : tie.Need-same-length-2
 same-length-2 c = search needs
 
--- src/lib.rt:134:1
 returns-2 : tie.Need-returns-2
-returns-2 c = search needs
+unfolding cleanOrOpen
+returns-2 c = rw (ne-eqb (c .before .before .before .before .before .before .before .args .count) 0 (c .before .before .before .before .before .if1 .left)) (c .before .before .put-text2 .ensures)
 
 pub clean-or-open-spec : {M : Type 1} → statement M
 clean-or-open-spec =

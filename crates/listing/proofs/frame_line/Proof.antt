@@ -1,3 +1,9 @@
+-- `listing::frame_line` meets its contract. The fields are written one after the other. Assumes nothing.
+use native.Mathlib.Omega.{arith}
+use mathlib.Core.Path.{_≡_, refl}
+use Rattle.listing.proofs.Put.{then}
+use Rattle.listing.specs.Lines.{frameLine}
+use Rattle.listing.proofs.Lengths.{frame-length}
 use borrow.Author.Needs.{needs}
 use Rattle.listing.proofs.frame_line.Statement.{statement}
 use Rattle.listing.proofs.frame_line.Tie as tie
@@ -8,37 +14,44 @@ use Rattle.listing.proofs.put_byte.Reads as put-byte-reads
 use Rattle.listing.proofs.put_decimal.Reads as put-decimal-reads
 use Rattle.listing.proofs.put_hex.Reads as put-hex-reads
 
--- src/lib.rt:148:9
 put-decimal-requires : tie.Need-put-decimal-requires
-put-decimal-requires c κs = search needs
+put-decimal-requires c κs = omega (arith, frame-length (c .before .before .before .args .place) (c .before .before .before .args .count) (c .before .before .before .args .bits .now))
 
--- src/lib.rt:149:9
 put-byte-requires : tie.Need-put-byte-requires
-put-byte-requires c κs = search needs
+put-byte-requires c κs = omega (arith, frame-length (c .before .before .before .before .before .before .before .args .place) (c .before .before .before .before .before .before .before .args .count) (c .before .before .before .before .before .before .before .args .bits .now))
 
--- src/lib.rt:150:9
 put-decimal-requires-2 : tie.Need-put-decimal-requires-2
-put-decimal-requires-2 c κs = search needs
+put-decimal-requires-2 c κs = omega (arith, frame-length (c .before .before .before .before .before .before .before .before .before .before .before .args .place) (c .before .before .before .before .before .before .before .before .before .before .before .args .count) (c .before .before .before .before .before .before .before .before .before .before .before .args .bits .now))
 
--- src/lib.rt:151:9
 clean-or-open-requires : tie.Need-clean-or-open-requires
-clean-or-open-requires c κs = search needs
+clean-or-open-requires c κs = omega (arith, frame-length (c .before .before .before .before .before .before .before .before .before .before .before .before .before .before .before .args .place) (c .before .before .before .before .before .before .before .before .before .before .before .before .before .before .before .args .count) (c .before .before .before .before .before .before .before .before .before .before .before .before .before .before .before .args .bits .now))
 
--- src/lib.rt:152:9
 put-hex-requires : tie.Need-put-hex-requires
-put-hex-requires c κs = search needs
+put-hex-requires c κs = omega (arith, frame-length (c .before .before .before .before .before .before .before .before .before .before .before .before .before .before .before .before .before .before .before .args .place) (c .before .before .before .before .before .before .before .before .before .before .before .before .before .before .before .before .before .before .before .args .count) (c .before .before .before .before .before .before .before .before .before .before .before .before .before .before .before .before .before .before .before .args .bits .now))
 
--- src/lib.rt:153:5
 put-byte-requires-2 : tie.Need-put-byte-requires-2
-put-byte-requires-2 c κs = search needs
+put-byte-requires-2 c κs = omega (arith, frame-length (c .before .before .before .before .before .before .before .before .before .before .before .before .before .before .before .before .before .before .before .before .before .before .before .args .place) (c .before .before .before .before .before .before .before .before .before .before .before .before .before .before .before .before .before .before .before .before .before .before .before .args .count) (c .before .before .before .before .before .before .before .before .before .before .before .before .before .before .before .before .before .before .before .before .before .before .before .args .bits .now))
 
--- src/lib.rt:144:1
 same-length : tie.Need-same-length
 same-length c = search needs
 
--- src/lib.rt:144:1
 returns : tie.Need-returns
-returns c = search needs
+unfolding frameLine
+returns c =
+    let f = c .before .before in
+    let e = f .before .before .before .before in
+    let d = e .before .before .before .before in
+    let b = d .before .before .before .before in
+    let a = b .before .before .before .before in
+    let z = a .before .before .before .before in
+    let start = z .before .before .before .before in
+    let room = frame-length (start .args .place) (start .args .count) (start .args .bits .now) in
+    then (z .put-decimal .ensures) (omega arith)
+    (then (a .put-byte .ensures) (omega arith)
+    (then (b .put-decimal2 .ensures) (omega arith)
+    (then (d .clean-or-open .ensures) (omega arith)
+    (then (e .put-hex .ensures) (omega arith)
+    (f .put-byte2 .ensures)))))
 
 pub frame-line-spec : {M : Type 1} → statement M
 frame-line-spec =

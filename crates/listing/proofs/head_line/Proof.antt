@@ -1,88 +1,75 @@
+-- `listing::head_line` meets its contract. The fields are written one after the other. Assumes nothing.
+use native.Mathlib.Omega.{arith}
+use mathlib.Core.Path.{_≡_, refl}
+use Rattle.listing.proofs.Put.{then}
+use Rattle.listing.specs.Lines.{headLine}
+use Rattle.listing.proofs.Lengths.{head-length}
 use borrow.Author.Needs.{needs}
 use Rattle.listing.proofs.head_line.Statement.{statement}
 use Rattle.listing.proofs.head_line.Tie as tie
 use Rattle.listing.proofs.head_line.Reads as reads
 use Rattle.listing.proofs.head_line.Lts as lts
 use Rattle.listing.proofs.put_byte.Reads as put-byte-reads
-use Rattle.listing.proofs.put_decimal.Reads as put-decimal-reads
-use Rattle.listing.proofs.put_text.Reads as put-text-reads
+use Rattle.listing.proofs.put_field.Reads as put-field-reads
 
--- src/lib.rt:123:31
-slice-aggregate-put-text : tie.Need-slice-aggregate-put-text
-slice-aggregate-put-text c = search needs
+slice-aggregate-put-field : tie.Need-slice-aggregate-put-field
+slice-aggregate-put-field c = search needs
 
--- src/lib.rt:123:9
-put-text-requires : tie.Need-put-text-requires
-put-text-requires c κs = search needs
+put-field-requires : tie.Need-put-field-requires
+put-field-requires c κs = omega (arith, head-length (c .before .before .before .args .code) (c .before .before .before .args .rule) (c .before .before .before .args .limit) (c .before .before .before .args .frames))
 
--- src/lib.rt:124:9
-put-decimal-requires : tie.Need-put-decimal-requires
-put-decimal-requires c κs = search needs
+slice-aggregate-put-field-2 : tie.Need-slice-aggregate-put-field-2
+slice-aggregate-put-field-2 c = search needs
 
--- src/lib.rt:125:30
-slice-aggregate-put-text-2 : tie.Need-slice-aggregate-put-text-2
-slice-aggregate-put-text-2 c = search needs
+put-field-requires-2 : tie.Need-put-field-requires-2
+put-field-requires-2 c κs = omega (arith, head-length (c .before .before .before .before .before .before .before .before .args .code) (c .before .before .before .before .before .before .before .before .args .rule) (c .before .before .before .before .before .before .before .before .args .limit) (c .before .before .before .before .before .before .before .before .args .frames))
 
--- src/lib.rt:125:9
-put-text-requires-2 : tie.Need-put-text-requires-2
-put-text-requires-2 c κs = search needs
+slice-aggregate-put-field-3 : tie.Need-slice-aggregate-put-field-3
+slice-aggregate-put-field-3 c = search needs
 
--- src/lib.rt:126:9
-put-decimal-requires-2 : tie.Need-put-decimal-requires-2
-put-decimal-requires-2 c κs = search needs
+put-field-requires-3 : tie.Need-put-field-requires-3
+put-field-requires-3 c κs = omega (arith, head-length (c .before .before .before .before .before .before .before .before .before .before .before .before .before .args .code) (c .before .before .before .before .before .before .before .before .before .before .before .before .before .args .rule) (c .before .before .before .before .before .before .before .before .before .before .before .before .before .args .limit) (c .before .before .before .before .before .before .before .before .before .before .before .before .before .args .frames))
 
--- src/lib.rt:127:30
-slice-aggregate-put-text-3 : tie.Need-slice-aggregate-put-text-3
-slice-aggregate-put-text-3 c = search needs
+slice-aggregate-put-field-4 : tie.Need-slice-aggregate-put-field-4
+slice-aggregate-put-field-4 c = search needs
 
--- src/lib.rt:127:9
-put-text-requires-3 : tie.Need-put-text-requires-3
-put-text-requires-3 c κs = search needs
+put-field-requires-4 : tie.Need-put-field-requires-4
+put-field-requires-4 c κs = omega (arith, head-length (c .before .before .before .before .before .before .before .before .before .before .before .before .before .before .before .before .before .before .args .code) (c .before .before .before .before .before .before .before .before .before .before .before .before .before .before .before .before .before .before .args .rule) (c .before .before .before .before .before .before .before .before .before .before .before .before .before .before .before .before .before .before .args .limit) (c .before .before .before .before .before .before .before .before .before .before .before .before .before .before .before .before .before .before .args .frames))
 
--- src/lib.rt:128:9
-put-decimal-requires-3 : tie.Need-put-decimal-requires-3
-put-decimal-requires-3 c κs = search needs
-
--- src/lib.rt:129:30
-slice-aggregate-put-text-4 : tie.Need-slice-aggregate-put-text-4
-slice-aggregate-put-text-4 c = search needs
-
--- src/lib.rt:129:9
-put-text-requires-4 : tie.Need-put-text-requires-4
-put-text-requires-4 c κs = search needs
-
--- src/lib.rt:130:9
-put-decimal-requires-4 : tie.Need-put-decimal-requires-4
-put-decimal-requires-4 c κs = search needs
-
--- src/lib.rt:131:5
 put-byte-requires : tie.Need-put-byte-requires
-put-byte-requires c κs = search needs
+put-byte-requires c κs = omega (arith, head-length (c .before .before .before .before .before .before .before .before .before .before .before .before .before .before .before .before .before .before .before .before .before .before .args .code) (c .before .before .before .before .before .before .before .before .before .before .before .before .before .before .before .before .before .before .before .before .before .before .args .rule) (c .before .before .before .before .before .before .before .before .before .before .before .before .before .before .before .before .before .before .before .before .before .before .args .limit) (c .before .before .before .before .before .before .before .before .before .before .before .before .before .before .before .before .before .before .before .before .before .before .args .frames))
 
--- src/lib.rt:119:1
 same-length : tie.Need-same-length
 same-length c = search needs
 
--- src/lib.rt:119:1
 returns : tie.Need-returns
-returns c = search needs
+unfolding headLine
+returns c =
+    let e = c .before .before in
+    let d = e .before .before .before .before in
+    let b = d .before .before .before .before .before in
+    let a = b .before .before .before .before .before in
+    let z = a .before .before .before .before .before in
+    let start = z .before .before .before .before in
+    let room = head-length (start .args .code) (start .args .rule) (start .args .limit) (start .args .frames) in
+    then (z .put-field .ensures) (omega arith)
+    (then (a .put-field2 .ensures) (omega arith)
+    (then (b .put-field3 .ensures) (omega arith)
+    (then (d .put-field4 .ensures) (omega arith)
+    (e .put-byte .ensures))))
 
 pub head-line-spec : {M : Type 1} → statement M
 head-line-spec =
     tie.close
     (tie.spec
-    slice-aggregate-put-text
-    put-text-requires
-    put-decimal-requires
-    slice-aggregate-put-text-2
-    put-text-requires-2
-    put-decimal-requires-2
-    slice-aggregate-put-text-3
-    put-text-requires-3
-    put-decimal-requires-3
-    slice-aggregate-put-text-4
-    put-text-requires-4
-    put-decimal-requires-4
+    slice-aggregate-put-field
+    put-field-requires
+    slice-aggregate-put-field-2
+    put-field-requires-2
+    slice-aggregate-put-field-3
+    put-field-requires-3
+    slice-aggregate-put-field-4
+    put-field-requires-4
     put-byte-requires
     same-length
     returns)

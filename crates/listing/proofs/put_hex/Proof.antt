@@ -1,3 +1,12 @@
+-- `listing::put_hex` meets its contract. The invariant: with the bytes that are left put where the loop stands, the buffer holds the whole text. Assumes nothing.
+use native.Mathlib.Omega.{arith}
+use mathlib.Core.Path.{_≡_, refl, sym, ap, _∙_}
+use mathlib.Core.List.{List, [], _∷_, _++_}
+use Prim.Native.Nat.{ℕ, suc, _+_, _-_, _≤_, _<_}
+use lib.ListN.{length}
+use Rattle.listing.specs.Text.{byteAt, hexByte, hex}
+use Rattle.listing.proofs.Put.{Left, left-all, left-less, left-none}
+use Rattle.listing.proofs.Frames.{hexRest, hex-all, hex-more, hex-none}
 use borrow.Author.Needs.{needs}
 use Rattle.listing.proofs.put_hex.Statement.{statement}
 use Rattle.listing.proofs.put_hex.Tie as tie
@@ -7,42 +16,46 @@ use Rattle.listing.proofs.byte_at.Reads as byte-at-reads
 use Rattle.listing.proofs.put_hex_byte.Reads as put-hex-byte-reads
 
 abbrev Inv-loop : tie.InvT-loop
-Inv-loop out₀ at bits next₀ i₀ out next i = ?
+Inv-loop out₀ at bits next₀ i₀ out next i = Left out₀ at (hex bits) out next (hexRest bits i)
 
 abbrev μ-loop : tie.MeasureT-loop
-μ-loop out₀ at bits next₀ i₀ out next i = ?
+μ-loop out₀ at bits next₀ i₀ out next i = length bits - i
 
--- src/lib.rt:109:5
 loop-holds : tie.Need-loop-holds Inv-loop μ-loop
-loop-holds c = search needs
+loop-holds c =
+    let start = c .before .before in
+    rw (← hex-all (start .args .bits .now)) (left-all (start .args .out .now) (start .args .at) (hex (start .args .bits .now)))
 
--- src/lib.rt:110:13
 byte-at-requires : tie.Need-byte-at-requires Inv-loop μ-loop
 byte-at-requires c κs = search needs
 
--- src/lib.rt:111:9
 put-hex-byte-requires : tie.Need-put-hex-byte-requires Inv-loop μ-loop
-put-hex-byte-requires c κs = search needs
+put-hex-byte-requires c κs =
+    let more = ap length (hex-more (c .before .before .before .before .before .before .args .bits .now) (c .before .before .before .loop .i) (omega arith)) in
+    omega arith
 
--- src/lib.rt:112:9
 add-i : tie.Need-add-i Inv-loop μ-loop
 add-i c = search needs
 
--- src/lib.rt:109:5
 loop-less : tie.Need-loop-less Inv-loop μ-loop
 loop-less c = search needs
 
--- src/lib.rt:109:5
 loop-again : tie.Need-loop-again Inv-loop μ-loop
-loop-again c = search needs
+loop-again c =
+    let start = c .before .before .before .before .before .before .before .before .before in
+    let now = c .before .before .before .before .before .before .loop in
+    let bits = start .args .bits .now in
+    left-less (start .args .out .now) (start .args .at) (hex bits) now.out now.next (hexByte (byteAt bits now.i)) (hexRest bits (now.i + 8)) _ _ (omega arith) (rw (hex-more bits now.i (omega arith)) at (now .inv)) (rw (c .before .before .before .before .byte-at .ensures) at (c .before .before .put-hex-byte .ensures))
 
--- src/lib.rt:103:1
 same-length : tie.Need-same-length Inv-loop μ-loop
 same-length c = search needs
 
--- src/lib.rt:103:1
 returns : tie.Need-returns Inv-loop μ-loop
-returns c = search needs
+returns c =
+    let start = c .before .before .before .before in
+    let now = c .before .loop in
+    let bits = start .args .bits .now in
+    left-none (start .args .out .now) (start .args .at) (hex bits) now.out now.next (rw (hex-none bits now.i (c .loop-test .left)) at (now .inv))
 
 pub put-hex-spec : {M : Type 1} → statement M
 put-hex-spec =
