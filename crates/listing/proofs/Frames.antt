@@ -2,7 +2,7 @@
 use mathlib.Core.Path.{_≡_, refl, ap, _∙_}
 use mathlib.Core.List.{List, [], _∷_, _++_}
 use Prim.Native.Nat.{ℕ, suc, _+_, _-_, _*_, _/_, _≤_, _<_}
-use native.Mathlib.Nat.{sub-zero}
+use native.Mathlib.Nat.{sub-zero, suc-mul, mul-le-mul-right}
 use native.Mathlib.Numerals.{add-one}
 use native.Mathlib.Omega.{arith}
 use lib.ListN.{length, take, drop, getD, drop-of-length-le}
@@ -34,6 +34,13 @@ pub lines-more : (k j from : ℕ) (counts bits : List ℕ) → j < length counts
     → frameLines k j (drop j counts) (drop from bits) ≡ frameLine j (getD counts j 0) (take k (drop from bits)) ++ frameLines k (j + 1) (drop (j + 1) counts) (drop (from + k) bits)
 unfolding frameLines
 lines-more k j from counts bits h = rw (drop-cons counts j 0 h, drop-drop k from bits, add-one j)
+
+-- frame j's bits lie within those of n frames
+pub frame-within : (k j n : ℕ) → j < n → j * k + k ≤ n * k
+frame-within k j n h = rw (suc-mul j k) at (mul-le-mul-right k h)
+
+pub frame-next : (k j : ℕ) → (j + 1) * k ≡ j * k + k
+frame-next k j = rw (add-one j) (suc-mul j k)
 
 pub lines-none : (k j : ℕ) (counts bits : List ℕ) → length counts ≤ j → frameLines k j (drop j counts) bits ≡ []
 unfolding frameLines

@@ -2,6 +2,7 @@
 use mathlib.Core.Path.{_≡_, refl}
 use mathlib.Core.List.{List, [], _∷_, _++_}
 use Prim.Native.Nat.{ℕ, _+_, _*_, _/_, _≤_}
+use native.Mathlib.Omega.{arith}
 use lib.ListN.{length, length-append}
 use Rattle.listing.specs.Text.{leading, decimal, hex}
 use Rattle.listing.specs.Lines.{codeWord, ruleWord, limitWord, framesWord, refusedWord, field, headLine, cleanOrOpen, frameLine, refusalLine}
@@ -20,7 +21,7 @@ head-length code rule limit frames = simp length-append
 
 pub frame-length : (place count : ℕ) (bits : List ℕ) → length (frameLine place count bits) ≡ length (decimal place) + (1 + (length (decimal count) + (length (cleanOrOpen count) + (length (hex bits) + 1))))
 unfolding frameLine
-frame-length place count bits = simp length-append
+frame-length place count bits = simp length-append (omega arith)
 
 pub refusal-length : (number : ℕ) → length (refusalLine number) ≡ length (field refusedWord number) + 1
 unfolding refusalLine
