@@ -1,3 +1,4 @@
 pub mod Put
 pub mod Lengths
 pub mod Frames
+pub mod Load

@@ -33,7 +33,7 @@ module _ (out : List ℕ) (at : ℕ) (s : List ℕ) (room : at + length s ≤ le
   put-put t =
       let split : take at out ++ (s ++ drop (at + length s) out) ≡ (take at out ++ s) ++ drop (at + length s) out = sym (append-assoc (take at out) s (drop (at + length s) out)) in
       let more : drop (at + length s + length t) ((take at out ++ s) ++ drop (at + length s) out) ≡ drop (at + length s + length t) out
-          = drop-past (take at out ++ s) (drop (at + length s) out) (at + length s) (length t) front-length ∙ drop-drop (length t) (at + length s) out in
+      = drop-past (take at out ++ s) (drop (at + length s) out) (at + length s) (length t) front-length ∙ drop-drop (length t) (at + length s) out in
       rw (split, take-at (take at out ++ s) (drop (at + length s) out) (at + length s) front-length, more, length-append s t, ← add-assoc at (length s) (length t), append-assoc, append-assoc)
 
 -- ---- writers, one after the other
@@ -42,10 +42,11 @@ module _ {out : List ℕ} {at : ℕ} {s : List ℕ} {after : List ℕ} {next : �
   pub then : {t : List ℕ} {last : List ℕ} {end : ℕ} → Written out at s after next → at + length s ≤ length out → Written after next t last end → Written out at (s ++ t) last end
   then {t} {last} {end} w room v = record { bytes = bytes; end = ends }
     where
-    bytes : last ≡ put out at (s ++ t)
-    bytes = v .bytes ∙ rw (w .bytes, w .end, put-put out at s room t)
-    ends : end ≡ at + length (s ++ t)
-    ends = rw (length-append s t) (omega arith)
+      bytes : last ≡ put out at (s ++ t)
+      bytes = v .bytes ∙ rw (w .bytes, w .end, put-put out at s room t)
+
+      ends : end ≡ at + length (s ++ t)
+      ends = rw (length-append s t) (omega arith)
 
 -- nothing written
 pub nothing : (out : List ℕ) (at : ℕ) → Written out at [] out at
@@ -69,16 +70,20 @@ module _ (out : List ℕ) (at : ℕ) (text : List ℕ) where
   pub left-less : (now : List ℕ) (next : ℕ) (s rest after : List ℕ) (place : ℕ) → at + length text ≤ length out → Left out at text now next (s ++ rest) → Written now next s after place → Left out at text after place rest
   left-less now next s rest after place room l w = record { bytes = bytes; end = ends; size = size }
     where
-    lengths : next + (length s + length rest) ≡ at + length text
-    lengths = rw (length-append s rest) at (l .end)
-    fits : next + length s ≤ length now
-    fits = omega (arith, lengths, l .size, room)
-    bytes : put after place rest ≡ put out at text
-    bytes = rw (w .bytes, w .end, put-put now next s fits rest) (l .bytes)
-    ends : place + length rest ≡ at + length text
-    ends = omega (arith, lengths, w .end)
-    size : length after ≡ length out
-    size = rw (w .bytes, put-length now next s fits) (l .size)
+      lengths : next + (length s + length rest) ≡ at + length text
+      lengths = rw (length-append s rest) at (l .end)
+
+      fits : next + length s ≤ length now
+      fits = omega (arith, lengths, l .size, room)
+
+      bytes : put after place rest ≡ put out at text
+      bytes = rw (w .bytes, w .end, put-put now next s fits rest) (l .bytes)
+
+      ends : place + length rest ≡ at + length text
+      ends = omega (arith, lengths, w .end)
+
+      size : length after ≡ length out
+      size = rw (w .bytes, put-length now next s fits) (l .size)
 
   pub left-none : (now : List ℕ) (next : ℕ) → Left out at text now next [] → Written out at text now next
   left-none now next l = record { bytes = sym (put-nil now next) ∙ l .bytes; end = omega (arith, l .end) }

@@ -1,7 +1,7 @@
 -- The program's input (document 01, "The program"): "at most 65,536 bytes, little-endian: code, rule (a byte each), limit (u16), scale (f32 bits),
 -- pair count (u16), two zero bytes; then pairs of u32; then f32 values to the end."
 use mathlib.Core.Bool.{Bool, not, _||_}
-use mathlib.Core.List.{List, [], _∷_, map}
+use mathlib.Core.List.{List, [], _∷_}
 use Prim.Native.Nat.{ℕ, zero, suc, _+_, _-_, _*_, _/_, _%_}
 use lib.Dec.{eqb, ltb}
 use lib.Ieee.{Float, binary32, ofBits}
@@ -15,10 +15,10 @@ u16At s i = getD s i 0 + 256 * getD s (i + 1) 0
 abbrev pub u32At : List ℕ → ℕ → ℕ
 u32At s i = u16At s i + 65536 * u16At s (i + 2)
 
--- n of them, one after the other
-unfoldable pub u32sFrom : List ℕ → ℕ → ℕ → List ℕ
-u32sFrom s i zero = []
-u32sFrom s i (suc n) = u32At s i ∷ u32sFrom s (i + 4) n
+-- n of them, one after the other, each read by f
+unfoldable pub u32sFrom : {A : Type 0} → (ℕ → A) → List ℕ → ℕ → ℕ → List A
+u32sFrom f s i zero = []
+u32sFrom f s i (suc n) = f (u32At s i) ∷ u32sFrom f s (i + 4) n
 
 -- ---- the header
 
@@ -49,13 +49,13 @@ valuesStart s = 12 + 8 * pairCount s
 
 -- offset, length, offset, length ..
 unfoldable pub pairsOf : List ℕ → List ℕ
-pairsOf s = u32sFrom s 12 (2 * pairCount s)
+pairsOf s = u32sFrom (λ w. w) s 12 (2 * pairCount s)
 
 abbrev pub valueCount : List ℕ → ℕ
 valueCount s = (length s - valuesStart s) / 4
 
 unfoldable pub valuesOf : List ℕ → List Float
-valuesOf s = map floatOf (u32sFrom s (valuesStart s) (valueCount s))
+valuesOf s = u32sFrom floatOf s (valuesStart s) (valueCount s)
 
 -- ---- refusal 13
 

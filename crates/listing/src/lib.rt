@@ -5,6 +5,7 @@ ghost use Prim.Native.Nat.{_+_, _*_, _<_, _≤_};
 ghost use lib.ListN.{length};
 ghost use Rattle.listing.specs.Written.{Written};
 ghost use Rattle.listing.specs.Text.{leading, decimal, bitAt, byteAt, hexDigit, hexByte, hex};
+ghost use Rattle.listing.specs.Input.{u16At, u32At, u32sFrom, floatOf, pairCount, valuesStart, malformed};
 ghost use Rattle.listing.specs.Lines.{field, headLine, cleanOrOpen, frameLine, frameLines, refusalLine};
 
 // ---- texts and numbers, each written at a place of the buffer; the answer is the place after it
@@ -62,11 +63,7 @@ fn put_decimal(out: &mut [u8], at: usize, n: u16) -> usize
 fn bit_at(bits: &[u8], i: usize) -> u8
     ensures { λ r. ⌜ r ≡ bitAt (now (bits .entry)) i ⌝ }
 {
-    if i < bits.len() {
-        bits[i] % 2
-    } else {
-        0
-    }
+    if i < bits.len() { bits[i] % 2 } else { 0 }
 }
 
 // Eight bits as a byte.
@@ -183,4 +180,94 @@ fn refusal_line(out: &mut [u8], at: usize, number: u16) -> usize
 {
     let a = put_field(out, at, b"refused ", number);
     put_byte(out, a, 10)
+}
+
+// ---- the input
+
+fn u16_at(s: &[u8], i: usize) -> u16
+    requires { ⌜ i + 2 ≤ length (now s) ⌝ }
+    ensures { λ r. ⌜ r ≡ u16At (now (s .entry)) i ⌝ }
+{
+    s[i] as u16 + 256 * (s[i + 1] as u16)
+}
+
+fn u32_at(s: &[u8], i: usize) -> u32
+    requires { ⌜ i + 4 ≤ length (now s) ⌝ }
+    ensures { λ r. ⌜ r ≡ u32At (now (s .entry)) i ⌝ }
+{
+    let low = u16_at(s, i);
+    let high = u16_at(s, i + 2);
+    low as u32 + 65536 * (high as u32)
+}
+
+// The float of the bits; a NaN's bits give a NaN that an operation makes.
+fn float_of(bits: u32) -> f32
+    ensures { λ r. ⌜ r ≡ floatOf bits ⌝ }
+{
+    if bits % 2147483648 > 2139095040 {
+        0.0 / 0.0
+    } else {
+        f32::from_bits(bits)
+    }
+}
+
+// The numbers from `at` on, as many as the slice has places.
+fn load_words(input: &[u8], at: usize, words: &mut [u32])
+    requires { ⌜ at + 4 * length (now words) ≤ length (now input) ⌝ }
+    ensures { λ _. ⌜ now (words .exit) ≡ u32sFrom (λ w. w) (now (input .entry)) at (length (now (words .entry))) ⌝ }
+{
+    let mut i = 0;
+    while i < words.len() {
+        words[i] = u32_at(input, at + 4 * i);
+        i += 1;
+    }
+}
+
+// The floats from `at` on, as many as the slice has places.
+fn load_values(input: &[u8], at: usize, values: &mut [f32])
+    requires { ⌜ at + 4 * length (now values) ≤ length (now input) ⌝ }
+    ensures { λ _. ⌜ now (values .exit) ≡ u32sFrom floatOf (now (input .entry)) at (length (now (values .entry))) ⌝ }
+{
+    let mut i = 0;
+    while i < values.len() {
+        values[i] = float_of(u32_at(input, at + 4 * i));
+        i += 1;
+    }
+}
+
+fn pair_count(input: &[u8]) -> usize
+    requires { ⌜ 12 ≤ length (now input) ⌝ }
+    ensures { λ r. ⌜ r ≡ pairCount (now (input .entry)) ⌝ }
+    ensures { λ r. ⌜ r < 65536 ⌝ }
+{
+    u16_at(input, 8) as usize
+}
+
+fn values_start(input: &[u8]) -> usize
+    requires { ⌜ 12 ≤ length (now input) ⌝ }
+    ensures { λ r. ⌜ r ≡ valuesStart (now (input .entry)) ⌝ }
+{
+    12 + 8 * pair_count(input)
+}
+
+fn is_malformed(input: &[u8]) -> bool
+    ensures { λ r. ⌜ r ≡ malformed (now (input .entry)) ⌝ }
+{
+    if input.len() > 65536 {
+        return true;
+    }
+    if input.len() < 12 {
+        return true;
+    }
+    if input[10] != 0 {
+        return true;
+    }
+    if input[11] != 0 {
+        return true;
+    }
+    let start = values_start(input);
+    if input.len() < start {
+        return true;
+    }
+    (input.len() - start) % 4 != 0
 }

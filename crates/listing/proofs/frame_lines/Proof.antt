@@ -73,8 +73,7 @@ loop-again c =
     let k = start .args .k in
     let bits = start .args .bits .now in
     let counts = start .args .counts .now in
-    let line = frameLine now.j (getD counts now.j 0) (take k (drop now.from bits)) in
-    (
+    let line = frameLine now.j (getD counts now.j 0) (take k (drop now.from bits)) in (
       omega arith,
       omega (arith, frame-next k now.j),
       left-less (start .args .out .now) (start .args .at) (frameLines k 0 counts bits) now.out now.next line (frameLines k (now.j + 1) (drop (now.j + 1) counts) (drop (now.from + k) bits)) _ _ (omega arith) (rw (lines-more k now.j now.from counts bits (omega arith)) at (now .inv .2)) (rw (add-sub-cancel-left now.from k) at (c .before .before .frame-line .ensures)),

@@ -47,8 +47,7 @@ loop-again c =
     let now = c .before .before .loop in
     let text = start .args .text .now in
     let size = length-drop now.i text in
-    let more : drop now.i text ≡ (getD text now.i 0 ∷ []) ++ drop (now.i + 1) text = rw (add-one now.i) (drop-cons text now.i 0 (omega arith)) in
-    (
+    let more : drop now.i text ≡ (getD text now.i 0 ∷ []) ++ drop (now.i + 1) text = rw (add-one now.i) (drop-cons text now.i 0 (omega arith)) in (
       omega arith,
       left-less (start .args .out .now) (start .args .at) text now.out now.next (getD text now.i 0 ∷ []) (drop (now.i + 1) text) _ _ (omega arith) (rw more at (now .inv .1)) (one now.out now.next (getD text now.i 0) (omega arith)),
     )
