@@ -2,3 +2,6 @@ pub mod Put
 pub mod Lengths
 pub mod Frames
 pub mod Load
+pub mod Bounds
+pub mod Handed
+pub mod Room

@@ -2,3 +2,4 @@ pub mod Written
 pub mod Text
 pub mod Lines
 pub mod Input
+pub mod Listing

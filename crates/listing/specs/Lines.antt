@@ -74,3 +74,8 @@ refusalLine number = field refusedWord number ++ newline
 unfoldable pub printed : Outcome (List ℕ) → List ℕ
 printed (accepted text) = text
 printed (refused number) = refusalLine number
+
+-- the text that goes with an answer that carries none
+unfoldable pub withText : Outcome Unit → List ℕ → Outcome (List ℕ)
+withText (accepted u) text = accepted text
+withText (refused number) text = refused number

@@ -1,12 +1,17 @@
 // The listing of a batch: the program's input read, and what is printed for it written into a lent buffer.
+use batch::Batched;
 ghost use mathlib.Core.Path.{_≡_};
 ghost use mathlib.Core.List.{_∷_, []};
-ghost use Prim.Native.Nat.{_+_, _*_, _<_, _≤_};
-ghost use lib.ListN.{length};
+ghost use Prim.Native.Nat.{_+_, _*_, _<_, _≤_, min};
+ghost use mathlib.Core.Bool.{false};
+ghost use lib.ListN.{length, take};
+ghost use Rattle.refusal.specs.Outcome.{judged, kept};
+ghost use Rattle.batch.specs.Calls.{batchedOf};
 ghost use Rattle.listing.specs.Written.{Written};
 ghost use Rattle.listing.specs.Text.{leading, decimal, bitAt, byteAt, hexDigit, hexByte, hex};
-ghost use Rattle.listing.specs.Input.{u16At, u32At, u32sFrom, floatOf, pairCount, valuesStart, malformed};
-ghost use Rattle.listing.specs.Lines.{field, headLine, cleanOrOpen, frameLine, frameLines, refusalLine};
+ghost use Rattle.listing.specs.Input.{u16At, u32At, u32sFrom, floatOf, pairCount, valuesStart, pairsOf, valuesOf, malformed};
+ghost use Rattle.listing.specs.Listing.{callRefusals, callBits, callCounts, framesText, listingOf, held};
+ghost use Rattle.listing.specs.Lines.{field, headLine, cleanOrOpen, frameLine, frameLines, refusalLine, printed, withText};
 
 // ---- texts and numbers, each written at a place of the buffer; the answer is the place after it
 
@@ -270,4 +275,170 @@ fn is_malformed(input: &[u8]) -> bool
         return true;
     }
     (input.len() - start) % 4 != 0
+}
+
+// ---- the listing
+
+// Room for the bits and the counts of 24 frames, for 25 pairs and for the values of the longest input: each ensures its length alone.
+
+fn bits_room() -> [u8; 9216]
+    ensures { λ r. ⌜ 9216 ≡ length r ⌝ }
+{
+    [0; 9216]
+}
+
+fn counts_room() -> [u16; 24]
+    ensures { λ r. ⌜ 24 ≡ length r ⌝ }
+{
+    [0; 24]
+}
+
+fn pairs_room() -> [u32; 50]
+    ensures { λ r. ⌜ 50 ≡ length r ⌝ }
+{
+    [0; 50]
+}
+
+fn values_room() -> [f32; 16384]
+    ensures { λ r. ⌜ 16384 ≡ length r ⌝ }
+{
+    [0.0; 16384]
+}
+
+// The number of frames that have room in the outputs: none where there are too many.
+fn frames_held(frames: usize) -> usize
+    ensures { λ r. ⌜ r ≡ held frames ⌝ }
+{
+    if frames < 25 { frames } else { 0 }
+}
+
+// The batch call, with the numbers of the header.
+fn decode_input(
+    input: &[u8],
+    values: &[f32],
+    pairs: &[u32],
+    bits: &mut [u8],
+    counts: &mut [u16],
+) -> Batched
+    requires { ⌜ 12 ≤ length (now input) ⌝ }
+    ensures { λ r. ⌜ batchedOf r ≡ judged (callRefusals (now (input .entry)) (now (values .entry)) (now (pairs .entry)) (now (bits .entry)) (now (counts .entry))) tt ⌝ }
+    ensures { λ _. ⌜ now (bits .exit) ≡ kept (callRefusals (now (input .entry)) (now (values .entry)) (now (pairs .entry)) (now (bits .entry)) (now (counts .entry))) (now (bits .entry)) (callBits (now (input .entry)) (now (values .entry)) (now (pairs .entry))) ⌝ }
+    ensures { λ _. ⌜ now (counts .exit) ≡ kept (callRefusals (now (input .entry)) (now (values .entry)) (now (pairs .entry)) (now (bits .entry)) (now (counts .entry))) (now (counts .entry)) (callCounts (now (input .entry)) (now (values .entry)) (now (pairs .entry))) ⌝ }
+{
+    let code = input[0] as u32;
+    let rule = input[1] as u32;
+    let limit = u16_at(input, 2);
+    let scale = float_of(u32_at(input, 4));
+    let mut work = [0.0f32; 3070];
+    batch::decode_batch(
+        code,
+        rule,
+        limit,
+        scale,
+        values,
+        pairs,
+        bits,
+        counts,
+        &mut work,
+    )
+}
+
+// The head line and the frames' lines.
+fn write_frames(input: &[u8], k: usize, counts: &[u16], bits: &[u8], out: &mut [u8]) -> usize
+    requires { ⌜ 12 ≤ length (now input) ⌝ }
+    requires { ⌜ length (now counts) ≤ 24 ⌝ }
+    requires { ⌜ length (now bits) ≡ length (now counts) * k ⌝ }
+    requires { ⌜ length (framesText (now input) k (now counts) (now bits)) ≤ length (now out) ⌝ }
+    ensures { λ r. ⌜ Written (now (out .entry)) 0 (framesText (now (input .entry)) k (now (counts .entry)) (now (bits .entry))) (now (out .exit)) r ⌝ }
+{
+    let code = input[0] as u16;
+    let rule = input[1] as u16;
+    let limit = u16_at(input, 2);
+    let frames = u16_at(input, 8);
+    let at = head_line(out, 0, code, rule, limit, frames);
+    frame_lines(out, at, k, counts, bits)
+}
+
+// The batch's answer as text.
+fn write_answer(
+    answer: Batched,
+    input: &[u8],
+    k: usize,
+    counts: &[u16],
+    bits: &[u8],
+    out: &mut [u8],
+) -> usize
+    requires { ⌜ 12 ≤ length (now input) ⌝ }
+    requires { ⌜ length (now counts) ≤ 24 ⌝ }
+    requires { ⌜ k ≤ 384 ⌝ }
+    requires { ⌜ length (now bits) ≡ length (now counts) * k ⌝ }
+    requires { ⌜ 4096 ≤ length (now out) ⌝ }
+    ensures { λ r. ⌜ Written (now (out .entry)) 0 (printed (withText (batchedOf answer) (framesText (now (input .entry)) k (now (counts .entry)) (now (bits .entry))))) (now (out .exit)) r ⌝ }
+    ensures { λ r. ⌜ r ≤ 4096 ⌝ }
+{
+    match answer {
+        Batched::Done => write_frames(input, k, counts, bits, out),
+        Batched::Refused(r) => refusal_line(out, 0, refusal::number(r) as u16),
+    }
+}
+
+// The listing of an input that is not malformed, its values and pairs read.
+fn list_frames(input: &[u8], values: &[f32], pairs: &[u32], out: &mut [u8]) -> usize
+    requires { ⌜ malformed (now input) ≡ false ⌝ }
+    requires { ⌜ now values ≡ valuesOf (now input) ⌝ }
+    requires { ⌜ now pairs ≡ take 50 (pairsOf (now input)) ⌝ }
+    requires { ⌜ 4096 ≤ length (now out) ⌝ }
+    ensures { λ r. ⌜ Written (now (out .entry)) 0 (listingOf (now (input .entry))) (now (out .exit)) r ⌝ }
+    ensures { λ r. ⌜ r ≤ 4096 ⌝ }
+{
+    let n = frames_held(pair_count(input));
+    let k = batch::message_bits(input[0] as u32);
+    let size = n * k;
+    let mut bits = bits_room();
+    let mut counts = counts_room();
+    let answer = decode_input(
+        input,
+        values,
+        pairs,
+        &mut bits[..size],
+        &mut counts[..n],
+    );
+    write_answer(answer, input, k, &counts[..n], &bits[..size], out)
+}
+
+// The number of words of the pairs handed on.
+fn words_passed(frames: usize) -> usize
+    requires { ⌜ frames < 65536 ⌝ }
+    ensures { λ r. ⌜ r ≡ min 50 (2 * frames) ⌝ }
+{
+    if frames < 25 { 2 * frames } else { 50 }
+}
+
+// The listing of an input that is not malformed.
+fn list_input(input: &[u8], out: &mut [u8]) -> usize
+    requires { ⌜ malformed (now input) ≡ false ⌝ }
+    requires { ⌜ 4096 ≤ length (now out) ⌝ }
+    ensures { λ r. ⌜ Written (now (out .entry)) 0 (listingOf (now (input .entry))) (now (out .exit)) r ⌝ }
+    ensures { λ r. ⌜ r ≤ 4096 ⌝ }
+{
+    let mut pairs = pairs_room();
+    let words = words_passed(pair_count(input));
+    load_words(input, 12, &mut pairs[..words]);
+    let mut values = values_room();
+    let start = values_start(input);
+    let n = (input.len() - start) / 4;
+    load_values(input, start, &mut values[..n]);
+    list_frames(input, &values[..n], &pairs[..words], out)
+}
+
+// The listing of an input, at the front of the buffer; the answer is its length.
+pub fn list(input: &[u8], out: &mut [u8]) -> usize
+    requires { ⌜ 4096 ≤ length (now out) ⌝ }
+    ensures { λ r. ⌜ Written (now (out .entry)) 0 (listingOf (now (input .entry))) (now (out .exit)) r ⌝ }
+    ensures { λ r. ⌜ r ≤ 4096 ⌝ }
+{
+    if is_malformed(input) {
+        return refusal_line(out, 0, 13);
+    }
+    list_input(input, out)
 }
