@@ -75,7 +75,7 @@ answer-text (c ∷ cs) F x y z w = by (c .holds) refl (answer-text cs F x y z w)
 -- ---- more pairs than the outputs have room for
 
 -- Over 24 pairs are refused for the code, for the rule, or for their number: the other arguments do not matter.
-too-many : (code rule : ℕ) (values : List Float) (pairs pairs′ bits bits′ counts counts′ : List ℕ) (work : List Float) (text text′ : List ℕ) → 48 < length pairs → 48 < length pairs′
+too-many : (code rule : ℕ) (values : List Float) (pairs pairs′ bits bits′ counts counts′ : List ℕ) (work : List Float) (text text′ : List ℕ) → 50 ≤ length pairs → 50 ≤ length pairs′
     → judged (batchRefusals code rule values pairs bits counts work) text ≡ judged (batchRefusals code rule values pairs′ bits′ counts′ work) text′
 unfolding batchRefusals
 too-many code rule values pairs pairs′ bits bits′ counts counts′ work text text′ h h′ = refl
