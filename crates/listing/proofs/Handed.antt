@@ -47,7 +47,7 @@ wellformed s h =
     record {
       short = ltb-false 65536 (length s) (or-left long cut two);
       head = ltb-false (length s) 12 (or-right long cut two);
-      pairs = ltb-false (length s) (valuesStart s) (or-right (long || cut || filler || filler2) pair five)
+      pairs = ltb-false (length s) (valuesStart s) (or-right (long || cut || filler || filler2) pair five);
     }
 
 -- ---- the pairs handed on
@@ -68,9 +68,9 @@ unfolding withText
 answer-text [] F x y z w = refl
 answer-text (c ∷ cs) F x y z w = by (c .holds) refl (answer-text cs F x y z w)
   where
-  by : (b : Bool) → c .holds ≡ b → withText (judged cs tt) (F (kept cs x y) (kept cs z w)) ≡ judged cs (F y w) → withText (judged (c ∷ cs) tt) (F (kept (c ∷ cs) x y) (kept (c ∷ cs) z w)) ≡ judged (c ∷ cs) (F y w)
-  by true e h = simp e
-  by false e h = simp e h
+    by : (b : Bool) → c .holds ≡ b → withText (judged cs tt) (F (kept cs x y) (kept cs z w)) ≡ judged cs (F y w) → withText (judged (c ∷ cs) tt) (F (kept (c ∷ cs) x y) (kept (c ∷ cs) z w)) ≡ judged (c ∷ cs) (F y w)
+    by true e h = simp e
+    by false e h = simp e h
 
 -- ---- more pairs than the outputs have room for
 
@@ -114,16 +114,16 @@ pub passed : (s : List ℕ) (n : ℕ) → n ≡ min 50 (2 * pairCount s) → u32
 unfolding pairsOf
 passed s n e = by (ltb 50 (2 * pairCount s)) refl
   where
-  by : (b : Bool) → ltb 50 (2 * pairCount s) ≡ b → u32sFrom (λ w. w) s 12 n ≡ take 50 (u32sFrom (λ w. w) s 12 (2 * pairCount s))
-  by true h =
-      let less = ltb-true 50 (2 * pairCount s) h in
-      let all : n ≡ 50 = omega arith in
-      rw all (sym (take-words (λ w. w) s 12 50 (2 * pairCount s) (omega arith)))
-  by false h =
-      let more = ltb-false 50 (2 * pairCount s) h in
-      let all : n ≡ 2 * pairCount s = omega arith in
-      let size = words-length (λ w. w) s 12 (2 * pairCount s) in
-      rw all (sym (take-all 50 (u32sFrom (λ w. w) s 12 (2 * pairCount s)) (omega arith)))
+    by : (b : Bool) → ltb 50 (2 * pairCount s) ≡ b → u32sFrom (λ w. w) s 12 n ≡ take 50 (u32sFrom (λ w. w) s 12 (2 * pairCount s))
+    by true h =
+        let less = ltb-true 50 (2 * pairCount s) h in
+        let all : n ≡ 50 = omega arith in
+        rw all (sym (take-words (λ w. w) s 12 50 (2 * pairCount s) (omega arith)))
+    by false h =
+        let more = ltb-false 50 (2 * pairCount s) h in
+        let all : n ≡ 2 * pairCount s = omega arith in
+        let size = words-length (λ w. w) s 12 (2 * pairCount s) in
+        rw all (sym (take-all 50 (u32sFrom (λ w. w) s 12 (2 * pairCount s)) (omega arith)))
 
 -- ---- the answer
 
@@ -147,20 +147,20 @@ pub same-answer : (s counts bits : List ℕ) → malformed s ≡ false → lengt
 unfolding programRefusals
 same-answer s counts bits h cl bl = by (ltb (pairCount s) 25) refl
   where
-  by : (b : Bool) → ltb (pairCount s) 25 ≡ b → answered s (take 50 (pairsOf s)) counts bits ≡ judged (programRefusals s) (framesOf s (pairsOf s))
-  by true e =
-      let few = ltb-true (pairCount s) 25 e in
-      let size = pairs-length s in
-      let all : length counts ≡ pairCount s = rw e at cl in
-      let full : length bits ≡ pairCount s * sizeK (codeOf s) = rw e at bl in
-      let same = only-lengths (codeOf s) (ruleOf s) (valuesOf s) (pairsOf s) bits (replicate (pairCount s * sizeK (codeOf s)) 0) counts (replicate (pairCount s) 0) (replicate 3070 zero32) (full ∙ sym (length-replicate (pairCount s * sizeK (codeOf s)) 0)) (all ∙ sym (length-replicate (pairCount s) 0)) in
-      answered-is s (take 50 (pairsOf s)) counts bits ∙ rw (h, take-all 50 (pairsOf s) (omega arith), same)
-  by false e =
-      let many = ltb-false (pairCount s) 25 e in
-      let size = pairs-length s in
-      let size′ = length-take 50 (pairsOf s) in
-      answered-is s (take 50 (pairsOf s)) counts bits
-      ∙ rw h (too-many (codeOf s) (ruleOf s) (valuesOf s) (take 50 (pairsOf s)) (pairsOf s) bits (replicate (pairCount s * sizeK (codeOf s)) 0) counts (replicate (pairCount s) 0) (replicate 3070 zero32) (framesOf s (take 50 (pairsOf s))) (framesOf s (pairsOf s)) (omega arith) (omega arith))
+    by : (b : Bool) → ltb (pairCount s) 25 ≡ b → answered s (take 50 (pairsOf s)) counts bits ≡ judged (programRefusals s) (framesOf s (pairsOf s))
+    by true e =
+        let few = ltb-true (pairCount s) 25 e in
+        let size = pairs-length s in
+        let all : length counts ≡ pairCount s = rw e at cl in
+        let full : length bits ≡ pairCount s * sizeK (codeOf s) = rw e at bl in
+        let same = only-lengths (codeOf s) (ruleOf s) (valuesOf s) (pairsOf s) bits (replicate (pairCount s * sizeK (codeOf s)) 0) counts (replicate (pairCount s) 0) (replicate 3070 zero32) (full ∙ sym (length-replicate (pairCount s * sizeK (codeOf s)) 0)) (all ∙ sym (length-replicate (pairCount s) 0)) in
+        answered-is s (take 50 (pairsOf s)) counts bits ∙ rw (h, take-all 50 (pairsOf s) (omega arith), same)
+    by false e =
+        let many = ltb-false (pairCount s) 25 e in
+        let size = pairs-length s in
+        let size′ = length-take 50 (pairsOf s) in
+        answered-is s (take 50 (pairsOf s)) counts bits
+        ∙ rw h (too-many (codeOf s) (ruleOf s) (valuesOf s) (take 50 (pairsOf s)) (pairsOf s) bits (replicate (pairCount s * sizeK (codeOf s)) 0) counts (replicate (pairCount s) 0) (replicate 3070 zero32) (framesOf s (take 50 (pairsOf s))) (framesOf s (pairsOf s)) (omega arith) (omega arith))
 
 -- the text of the answer to what is handed on is the listing
 pub listing-is : (s : List ℕ) (values : List Float) (pairs counts₀ bits₀ counts bits : List ℕ) (k : ℕ) (answer : Outcome Unit)

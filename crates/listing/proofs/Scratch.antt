@@ -19,7 +19,6 @@ pairs-half [] = omega arith
 pairs-half (o ∷ []) = omega arith
 pairs-half (o ∷ n ∷ ns) = omega (arith, pairs-half ns)
 
-
 too-many : (code rule : ℕ) (values : List Float) (pairs pairs′ bits bits′ counts counts′ : List ℕ) (work : List Float) (text text′ : List ℕ) → 50 ≤ length pairs → 50 ≤ length pairs′
     → judged (realRefusals code rule values pairs bits counts work) text ≡ judged (realRefusals code rule values pairs′ bits′ counts′ work) text′
 unfolding realRefusals

@@ -396,13 +396,7 @@ fn list_frames(input: &[u8], values: &[f32], pairs: &[u32], out: &mut [u8]) -> u
     let size = n * k;
     let mut bits = bits_room();
     let mut counts = counts_room();
-    let answer = decode_input(
-        input,
-        values,
-        pairs,
-        &mut bits[..size],
-        &mut counts[..n],
-    );
+    let answer = decode_input(input, values, pairs, &mut bits[..size], &mut counts[..n]);
     write_answer(answer, input, k, &counts[..n], &bits[..size], out)
 }
 
