@@ -5,4 +5,3 @@ pub mod Load
 pub mod Bounds
 pub mod Handed
 pub mod Room
-pub mod Scratch
