@@ -5,3 +5,4 @@ pub mod Load
 pub mod Bounds
 pub mod Handed
 pub mod Room
+pub mod Cases
