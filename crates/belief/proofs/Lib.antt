@@ -5,3 +5,4 @@ pub mod Bits
 pub mod AtGraph
 pub mod Loop
 pub mod Whole
+pub mod Laid

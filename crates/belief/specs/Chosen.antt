@@ -4,7 +4,7 @@ use mathlib.Core.List.{List, [], _∷_}
 use Prim.Native.Nat.{ℕ, _<_, _≤_}
 use lib.ListN.{length, getD}
 use Rattle.tanner.specs.Checks.{Word, Checks, count}
-use Rattle.belief.specs.Rounds.{Decode, initialWord, roundWords}
+use Rattle.belief.specs.Rounds.{Decode, initialWord, roundWords, chosenCount, chosenBits}
 
 -- "the initial hard word and the words of the rounds run"
 abbrev pub words : Decode → ℕ → List Word
@@ -21,3 +21,8 @@ pub record FirstLeast (cs : Checks) (ws : List Word) (v : Word) : Type 0 where
   pub there : wordAt ws place ≡ v
   pub least : (j : ℕ) → j < length ws → count cs v ≤ count cs (wordAt ws j)
   pub first : (j : ℕ) → j < place → count cs v < count cs (wordAt ws j)
+
+-- what a decode answers: the chosen word's count, and its first k bits
+pub record Chose (d : Decode) (limit k found : ℕ) (bits : List ℕ) : Type 0 where
+  pub counted : found ≡ chosenCount d limit
+  pub front : bits ≡ chosenBits d limit k

@@ -37,5 +37,5 @@ pub record Kept (cs : Checks) (k : ℕ) (word : Word) (bits : List ℕ) (kept : 
   pub counted : kept ≡ count cs word
 
 -- the work area after an accepted call: "its first 3,070 are +0.0 and the rest are unchanged"
-abbrev pub cleared : List Float → List Float
+unfoldable pub cleared : List Float → List Float
 cleared work = replicate 3070 zero32 ++ drop 3070 work

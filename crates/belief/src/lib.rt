@@ -264,7 +264,7 @@ fn choose(
 }
 
 // Every place +0.0.
-fn clear(part: &mut [f32])
+pub fn clear(part: &mut [f32])
     ensures { λ _. ⌜ now (part .exit) ≡ replicate (length (now (part .entry))) zero32 ⌝ }
 {
     let mut i = 0;

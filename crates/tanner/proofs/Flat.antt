@@ -128,3 +128,6 @@ edges-low p (suc n) flat = below-append (length flat) (places p 0 flat) (joined 
 
 pub bit-edges-low : (n : ℕ) (rs : Checks) → Below (length (joined rs)) (joined (bitEdges n rs))
 bit-edges-low n rs = edges-low 0 n (joined rs)
+
+pub offsets-length : (rs : Checks) → length (offsets rs) ≡ suc (length rs)
+offsets-length rs = ap suc (ends-length 0 rs)

@@ -5,6 +5,7 @@ use native.Mathlib.Omega.{arith}
 use lib.ListN.{length, take}
 use lib.Seq.{length-take-le}
 use Rattle.softmath.specs.Single.{zero32}
+use Rattle.belief.specs.Graph.{cleared}
 use Rattle.belief.proofs.Fill.{lent-part, lent-cleared}
 use Rattle.belief.proofs.Loop.{kept-count, kept-bits}
 use borrow.Author.Needs.{needs}
@@ -51,6 +52,7 @@ same-length-2 : tie.Need-same-length-2
 same-length-2 c = search needs
 
 returns : tie.Need-returns
+unfolding cleared
 returns c =
     let cleared = c .before .before in
     let done = cleared .before .before .before .before .before .before .before in

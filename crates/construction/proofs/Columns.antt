@@ -1,0 +1,100 @@
+-- What a column holds, read from its list: one row more at a time. Inductions over the list.
+use mathlib.Core.Path.{_≡_, refl, sym, ap, _∙_}
+use mathlib.Core.Bool.{Bool, true, false, cond, _||_, or-assoc}
+use mathlib.Core.List.{List, [], _∷_, _++_}
+use Prim.Native.Nat.{ℕ, zero, suc, _+_, _-_, _≤_, _<_}
+use native.Mathlib.Nat.{add-assoc}
+use native.Mathlib.Numerals.{add-one}
+use native.Mathlib.Omega.{arith}
+use borrow.Author.Tests.{eq-eqb, ne-eqb}
+use lib.Dec.{eqb}
+use lib.ListN.{length, getD, set, take, drop, length-set, drop-of-length-le}
+use lib.Seq.{drop-cons, take-suc}
+use Rattle.construction.specs.Columns.{holds, times, Found, row, nothing, Choice, upFrom, onceRound, firstOutside, settled, sorted}
+use Rattle.construction.proofs.Searches.{up-more, up-none}
+
+pub holds-append : (xs ys : List ℕ) (r : ℕ) → holds (xs ++ ys) r ≡ (holds xs r || holds ys r)
+unfolding holds
+holds-append [] ys r = refl
+holds-append (x ∷ xs) ys r = rw (holds-append xs ys r, or-assoc)
+
+pub times-append : (xs ys : List ℕ) (r : ℕ) → times (xs ++ ys) r ≡ times xs r + times ys r
+unfolding times
+times-append [] ys r = omega arith
+times-append (x ∷ xs) ys r = rw (times-append xs ys r) (omega arith)
+
+one-at-most : (b : Bool) → cond b 1 0 ≤ 1
+one-at-most true = omega arith
+one-at-most false = omega arith
+
+pub times-le : (xs : List ℕ) (r : ℕ) → times xs r ≤ length xs
+unfolding times
+times-le [] r = omega arith
+times-le (x ∷ xs) r = omega (arith, times-le xs r, one-at-most (eqb x r))
+
+-- ---- the loop that looks for a row
+module _ (c : List ℕ) (i r : ℕ) {b : Bool} (inv : holds (drop i c) r ≡ b) where
+  pub seek-found : i < length c → getD c i 0 ≡ r → true ≡ b
+  unfolding holds
+  seek-found h e = rw (drop-cons c i 0 h, eq-eqb (getD c i 0) r e) at inv
+
+  pub seek-more : i < length c → (getD c i 0 ≡ r → ⊥) → holds (drop (i + 1) c) r ≡ b
+  unfolding holds
+  seek-more h e = rw add-one (rw (drop-cons c i 0 h, ne-eqb (getD c i 0) r e) at inv)
+
+  pub seek-done : length c ≤ i → false ≡ b
+  unfolding holds
+  seek-done h = rw (drop-of-length-le c h) at inv
+
+-- ---- the loop that looks for the first row outside a column
+module _ (c : List ℕ) (r to other : ℕ) {a : ℕ} (inv : firstOutside c (upFrom r (to - r)) other ≡ a) where
+  pub outside-more : r < to → holds c r ≡ true → firstOutside c (upFrom (r + 1) (to - (r + 1))) other ≡ a
+  unfolding firstOutside
+  outside-more h e = rw (up-more r to h, e) at inv
+
+  pub outside-found : r < to → holds c r ≡ false → r ≡ a
+  unfolding firstOutside
+  outside-found h e = rw (up-more r to h, e) at inv
+
+  pub outside-done : to ≤ r → other ≡ a
+  unfolding firstOutside
+  outside-done h = rw (up-none r to h) at inv
+
+pub outside-append : (c xs ys : List ℕ) (other : ℕ) → firstOutside c xs (firstOutside c ys other) ≡ firstOutside c (xs ++ ys) other
+unfolding firstOutside
+outside-append c [] ys other = refl
+outside-append c (x ∷ xs) ys other = rw (outside-append c xs ys other)
+
+-- three stores to a list of three
+pub three-stored : (l : List ℕ) (x y z : ℕ) → length l ≡ 3 → x ∷ (y ∷ (z ∷ [])) ≡ sorted (getD l 0 0 ∷ (getD l 1 0 ∷ (getD l 2 0 ∷ [])))
+    → set (set (set l 0 x) 1 y) 2 z ≡ sorted l
+three-stored [] x y z e s = absurd (omega arith)
+three-stored (a ∷ []) x y z e s = absurd (omega arith)
+three-stored (a ∷ (b ∷ [])) x y z e s = absurd (omega arith)
+three-stored (a ∷ (b ∷ (c ∷ []))) x y z e s = s
+three-stored (a ∷ (b ∷ (c ∷ (d ∷ l)))) x y z e s = absurd (omega arith)
+
+pub either-below : (b : Bool) (x y m : ℕ) → x < m → y < m → cond b x y < m
+either-below true x y m p q = p
+either-below false x y m p q = q
+
+-- ---- the relaxed pick stays among the rows
+outside-up-below : (c : List ℕ) (m n a other : ℕ) → a + n ≤ m → other < m → firstOutside c (upFrom a n) other < m
+unfolding firstOutside upFrom
+outside-up-below c m zero a other h low = low
+outside-up-below c m (suc n) a other h low = either-below (holds c a) _ a m (outside-up-below c m n (suc a) other (omega arith) low) (omega arith)
+
+pub outside-below : (c : List ℕ) (m start : ℕ) → start < m → firstOutside c (onceRound m start) 0 < m
+outside-below c m start h =
+    rw (← outside-append c (upFrom start (m - start)) (upFrom 0 start) 0)
+    (outside-up-below c m (m - start) start _ (omega arith) (outside-up-below c m start 0 0 (omega arith) (omega arith)))
+
+-- ---- what a search found, settled
+pub settled-row : (m : ℕ) (picked : List ℕ) (start r : ℕ) {f : Found} → f ≡ row r → record { row = r; relaxed = 0 } ≡ settled m picked start f
+unfolding settled
+settled-row m picked start r e = rw e
+
+pub settled-relaxed : (m : ℕ) (picked : List ℕ) (start r : ℕ) {f : Found} → f ≡ nothing → r ≡ firstOutside picked (onceRound m start) 0
+    → record { row = r; relaxed = 1 } ≡ settled m picked start f
+unfolding settled
+settled-relaxed m picked start r e p = rw (e, p)

@@ -1,0 +1,8 @@
+pub mod Bits
+pub mod Searches
+pub mod Columns
+pub mod Marks
+pub mod Picks
+pub mod Made
+pub mod Agree
+pub mod Different

@@ -1,0 +1,185 @@
+-- A pick made from the loads and the flags of the columns is the pick of the definition; and three of them make a column.
+-- The search looks only at rows below m, where loads and flags are those of the columns.
+use mathlib.Core.Path.{_≡_, refl, sym, ap, _∙_}
+use mathlib.Core.Bool.{Bool, true, false, cond, _||_, or-assoc, or-comm, or-false}
+use mathlib.Core.List.{List, [], _∷_, _++_}
+use Prim.Native.Nat.{ℕ, zero, suc, _+_, _-_, _*_, _%_, _≤_, _<_}
+use native.Mathlib.Nat.{mod-lt, zero-add, suc-add}
+use native.Mathlib.Numerals.{add-one}
+use native.Mathlib.Omega.{arith}
+use native.Mathlib.Decide.{decLt}
+use lib.Dec.{ltb, eqb}
+use lib.ListN.{length, getD, set, take, drop, length-set, length-take, length-drop, replicate, getD-replicate, length-replicate}
+use lib.Seq.{take-set-le, take-take, take-suc, take-add, getD-take, getD-drop, getD-set-same, getD-set-other, take-nil, drop-set-add, take-suc-set}
+use Rattle.construction.specs.Draw.{draw}
+use Rattle.construction.specs.Columns.{Found, row, nothing, Choice, upFrom, search, leastOf, settled, pick, onePick, picks, skipped, load, together, times}
+use Rattle.construction.specs.Tables.{metRow, metRows, Below, loadAt, flagAt, columnAt, columnsIn, AllBelow, AllMarked, Flags, Loads, Loaded, Room, Ready, Placed, Picked}
+use Rattle.construction.proofs.Searches.{met-round}
+use Rattle.construction.proofs.Columns.{either-below, times-le}
+
+module _ (m : ℕ) (L L′ : ℕ → ℕ) (S S′ : ℕ → Bool) (loads : (r : ℕ) → r < m → L r ≡ L′ r) (flags : (r : ℕ) → r < m → S r ≡ S′ r) where
+  met-same : (b : Bool) (r : ℕ) (f : Found) → r < m → Below m f → metRow L b r f ≡ metRow L′ b r f
+  unfolding metRow leastOf Below
+  met-same true r f h low = refl
+  met-same false r nothing h low = refl
+  met-same false r (row q) h low = rw (loads r h, loads q low)
+
+  met-below : (b : Bool) (r : ℕ) (f : Found) → r < m → Below m f → Below m (metRow L b r f)
+  unfolding metRow leastOf Below
+  met-below true r f h low = low
+  met-below false r nothing h low = h
+  met-below false r (row q) h low = either-below (ltb (L r) (L q)) r q m h low
+
+  mets-same : (n a : ℕ) (f : Found) → a + n ≤ m → Below m f → metRows L S (upFrom a n) f ≡ metRows L′ S′ (upFrom a n) f
+  unfolding metRows upFrom
+  mets-same zero a f h low = refl
+  mets-same (suc n) a f h low =
+      let one = met-same (S a) a f (omega arith) low in
+      let rest = mets-same n (suc a) (metRow L (S a) a f) (omega arith) (met-below (S a) a f (omega arith) low) in
+      rest ∙ rw (one, flags a (omega arith))
+
+  mets-below : (n a : ℕ) (f : Found) → a + n ≤ m → Below m f → Below m (metRows L S (upFrom a n) f)
+  unfolding metRows upFrom
+  mets-below zero a f h low = low
+  mets-below (suc n) a f h low = mets-below n (suc a) (metRow L (S a) a f) (omega arith) (met-below (S a) a f (omega arith) low)
+
+  pub search-same : (start : ℕ) → start ≤ m → search m L S start ≡ search m L′ S′ start
+  unfolding Below
+  search-same start h =
+      let first = mets-same (m - start) start nothing (omega arith) tt in
+      sym (met-round L S m start)
+      ∙ mets-same start 0 _ (omega arith) (mets-below (m - start) start nothing (omega arith) tt)
+      ∙ rw first (met-round L′ S′ m start)
+
+-- ---- one pick
+part-is : (n t : ℕ) (rows : List ℕ) → take (3 * n + t - 3 * n) (drop (3 * n) rows) ≡ take t (drop (3 * n) rows)
+part-is n t rows =
+    let e : 3 * n + t - 3 * n ≡ t = omega arith in
+    rw e
+
+pub pick-is : {m : ℕ} {cs : List (List ℕ)} {loads marks : List ℕ} (n t state drawn : ℕ) (rows : List ℕ) {c : Choice} → Ready m cs loads marks → Flags cs (take t (drop (3 * n) rows)) marks
+    → drawn ≡ draw state
+    → c ≡ settled (length loads) (take (3 * n + t - 3 * n) (drop (3 * n) rows)) (drawn % length loads) (search (length loads) (loadAt loads) (flagAt marks) (drawn % length loads))
+    → c ≡ pick m cs (take t (drop (3 * n) rows)) (draw state)
+unfolding pick Flags Loads loadAt
+pick-is {m} {cs} {loads} {marks} n t state drawn rows ready flags e c =
+    let k = ready .rowsAre in
+    let low = mod-lt drawn (ready .some) in
+    let same = search-same m (loadAt loads) (load cs) (flagAt marks) (skipped cs (take t (drop (3 * n) rows))) (λ r h. ready .right r (omega arith)) (λ r h. flags r (omega (arith, ready .flagsAre))) (drawn % m) (omega arith) in
+    c ∙ rw (k, part-is n t rows, same, e)
+
+skipped-append : (cs : List (List ℕ)) (xs ys : List ℕ) (r : ℕ) → skipped cs (xs ++ ys) r ≡ (skipped cs xs r || skipped cs ys r)
+unfolding skipped
+skipped-append cs [] ys r = refl
+skipped-append cs (x ∷ xs) ys r = rw (skipped-append cs xs ys r) (sym (or-assoc (eqb x r || together cs x r) (skipped cs xs r) (skipped cs ys r)))
+
+one-skipped : (cs : List (List ℕ)) (q r : ℕ) → skipped cs (q ∷ []) r ≡ (eqb q r || together cs q r)
+unfolding skipped
+one-skipped cs q r = or-false (eqb q r || together cs q r)
+
+flags-more : (cs : List (List ℕ)) (picked : List ℕ) (q : ℕ) (u v : List ℕ) → length v ≡ length u → Flags cs picked u → AllMarked cs q u v → Flags cs (picked ++ (q ∷ [])) v
+unfolding Flags AllMarked
+flags-more cs picked q u v size f m r h =
+    m r (omega arith)
+    ∙ rw (f r (omega arith), skipped-append cs picked (q ∷ []) r, one-skipped cs q r) (or-comm (eqb q r || together cs q r) (skipped cs picked r))
+
+pub placed : {m : ℕ} (n t state drawn : ℕ) (rows loads marks marks′ : List ℕ) (c : Choice) → Ready m (columnsIn rows n) loads marks
+    → Flags (columnsIn rows n) (take t (drop (3 * n) rows)) marks → drawn ≡ draw state
+    → c ≡ settled (length loads) (take (3 * n + t - 3 * n) (drop (3 * n) rows)) (drawn % length loads) (search (length loads) (loadAt loads) (flagAt marks) (drawn % length loads))
+    → c .row < m → c .relaxed ≤ 1 → length marks′ ≡ length marks → AllMarked (columnsIn rows n) (c .row) marks marks′
+    → Placed m n t state rows drawn (c .relaxed) (set rows (3 * n + t) (c .row)) marks′
+placed n t state drawn rows loads marks marks′ c ready flags d e low most size all =
+    let same = pick-is n t state drawn rows ready flags d e in
+    record {
+      drawn = d;
+      relaxes = ap (λ (k : Choice). k .relaxed) same;
+      atMost = most;
+      stored = ap (λ (k : Choice). set rows (3 * n + t) (k .row)) same;
+      low = rw same at low;
+      flags = rw same at (flags-more _ _ (c .row) marks marks′ size flags all);
+    }
+
+-- ---- the picks of a column
+drop-take : (a b : ℕ) (l : List ℕ) → drop a (take (a + b) l) ≡ take b (drop a l)
+drop-take zero b l = rw zero-add
+drop-take (suc a) b [] = rw suc-add (sym (take-nil b))
+drop-take (suc a) b (x ∷ l) = rw suc-add (drop-take a b l)
+
+pub columns-same : (n : ℕ) (u v : List ℕ) → take (3 * n) u ≡ take (3 * n) v → columnsIn u n ≡ columnsIn v n
+unfolding columnsIn columnAt
+columns-same zero u v e = refl
+columns-same (suc n) u v e =
+    let s : 3 * suc n ≡ 3 * n + 3 = omega arith in
+    let f = rw s at e in
+    let one : take 3 (drop (3 * n) u) ≡ take 3 (drop (3 * n) v) = rw (← drop-take (3 * n) 3 u, f) (drop-take (3 * n) 3 v) in
+    let less : take (3 * n) u ≡ take (3 * n) v = rw (← take-take (3 * n) (3 * n + 3) u (omega arith), f) (take-take (3 * n) (3 * n + 3) v (omega arith)) in
+    rw (one, columns-same n u v less)
+
+-- one store after what was there
+below-more : (m i x : ℕ) (u : List ℕ) → i < length u → x < m → AllBelow m (take i u) → AllBelow m (take (i + 1) (set u i x))
+unfolding AllBelow
+below-more m i x u h low all j k =
+    let s : j < i + 1 = omega (arith, simp length-take at k) in
+    last (decLt j i)
+  where
+    last : Dec (j < i) → getD (take (i + 1) (set u i x)) j 0 < m
+    last (yes p) =
+        rw (getD-take (i + 1) (set u i x) j 0 (omega arith), getD-set-other u i j x 0 (λ e. omega arith), ← getD-take i u j 0 p)
+        (all j (simp length-take (omega arith)))
+    last (no p) =
+        let e : j ≡ i = omega (arith, simp length-take at k) in
+        rw (e, getD-take (i + 1) (set u i x) i 0 (omega arith), getD-set-same u i x 0 h) low
+
+pub picked-none : (m n state : ℕ) (rows : List ℕ) → AllBelow m (take (3 * n) rows) → Picked m n 0 state rows state 0 rows (replicate m 0)
+unfolding picks Flags skipped flagAt
+picked-none m n state rows all = record {
+  size = refl;
+  earlier = refl;
+  drawn = refl;
+  relaxes = refl;
+  atMost = omega arith;
+  picked = refl;
+  below =
+      let e : 3 * n + 0 ≡ 3 * n = omega arith in
+      rw e all;
+  flagsAre = length-replicate m 0;
+  flags = λ r h. rw (getD-replicate {A = ℕ} m r 0 0 (omega (arith, length-replicate {A = ℕ} m 0)));
+}
+
+pub picked-more : {m n t state : ℕ} {rows rows′ rows″ marks′ marks″ : List ℕ} {s s′ x x′ : ℕ} → 3 * n + t < length rows → Picked m n t state rows s x rows′ marks′
+    → Placed m n t s rows′ s′ x′ rows″ marks″ → length marks″ ≡ length marks′ → Picked m n (t + 1) state rows s′ (x + x′) rows″ marks″
+unfolding picks onePick
+picked-more {m} {n} {t} {state} {rows} {rows′} {rows″} {marks′} {marks″} {s} {s′} {x} {x′} fits p q size =
+    let cs : columnsIn rows′ n ≡ columnsIn rows n = columns-same n rows′ rows (p .earlier) in
+    let long : 3 * n + t < length rows′ = omega (arith, p .size) in
+    let c = pick m (columnsIn rows n) (picks t m (columnsIn rows n) state .rows) (draw (picks t m (columnsIn rows n) state .state)) in
+    let same : pick m (columnsIn rows′ n) (take t (drop (3 * n) rows′)) (draw s) ≡ c = rw (cs, p .picked, p .drawn) in
+    let stored : rows″ ≡ set rows′ (3 * n + t) (c .row) = rw same at (q .stored) in
+    record {
+      size = ap length stored ∙ simp length-set (p .size);
+      earlier = rw (stored, take-set-le (3 * n) rows′ (3 * n + t) (c .row) (omega arith)) (p .earlier);
+      drawn = rw (add-one, q .drawn, p .drawn);
+      relaxes = rw (add-one, q .relaxes, same, p .relaxes);
+      atMost = omega (arith, p .atMost, q .atMost);
+      picked =
+          rw (stored, add-one, drop-set-add (3 * n) rows′ t (c .row), take-suc-set (drop (3 * n) rows′) t (c .row) (simp length-drop (omega arith)), p .picked);
+      below =
+          let e : 3 * n + (t + 1) ≡ 3 * n + t + 1 = omega arith in
+          rw (e, stored) (below-more m (3 * n + t) (c .row) rows′ long (rw same at (q .low)) (p .below));
+      flagsAre = size ∙ p .flagsAre;
+      flags = rw add-one (rw (same, cs, p .picked) at (q .flags));
+    }
+
+-- what a pick needs, after some picks of the column
+module _ {m n t state : ℕ} {rows rows′ marks marks′ loads : List ℕ} {s x : ℕ} (ready : Ready m (columnsIn rows n) loads marks) (p : Picked m n t state rows s x rows′ marks′) where
+  pub ready-still : Ready m (columnsIn rows′ n) loads marks′
+  ready-still = record {
+    some = ready .some;
+    narrow = ready .narrow;
+    rowsAre = ready .rowsAre;
+    flagsAre = p .flagsAre;
+    right = rw (columns-same n rows′ rows (p .earlier)) (ready .right);
+  }
+
+  pub flags-still : Flags (columnsIn rows′ n) (take t (drop (3 * n) rows′)) marks′
+  flags-still = rw (columns-same n rows′ rows (p .earlier), p .picked) (p .flags)

@@ -1,0 +1,81 @@
+-- `construction::add_loads` meets its contract. The invariant: the rows passed are counted. Assumes nothing.
+use mathlib.Core.Path.{_≡_, refl, sym, _∙_}
+use Prim.Native.Nat.{_-_, _≤_}
+use native.Mathlib.Omega.{arith}
+use lib.ListN.{length, take, length-set}
+use lib.Seq.{take-all}
+use Rattle.construction.specs.Tables.{AllBelow, Loaded, Room}
+use Rattle.construction.proofs.Marks.{loaded-none, loaded-more, loaded-room}
+use borrow.Author.Needs.{needs}
+use Rattle.construction.proofs.add_loads.Statement.{statement}
+use Rattle.construction.proofs.add_loads.Tie as tie
+use Rattle.construction.proofs.add_loads.Reads as reads
+use Rattle.construction.proofs.add_loads.Lts as lts
+
+abbrev Inv-loop : tie.InvT-loop
+Inv-loop loads₀ column i₀ loads i = (i ≤ length column) × ((length loads ≡ length loads₀) × Loaded (take i column) loads₀ loads)
+
+abbrev μ-loop : tie.MeasureT-loop
+μ-loop loads₀ column i₀ loads i = length column - i
+
+loop-holds : tie.Need-loop-holds Inv-loop μ-loop
+loop-holds c = (search needs, (refl, loaded-none _))
+
+mul-r : tie.Need-mul-r Inv-loop μ-loop
+mul-r c = search needs
+
+shared-slice-read-r : tie.Need-shared-slice-read-r Inv-loop μ-loop
+shared-slice-read-r c = search needs
+
+cast-r : tie.Need-cast-r Inv-loop μ-loop
+cast-r c = omega (arith, c .shared-slice-known .given (c .before .before .loop .i))
+
+mul-loads : tie.Need-mul-loads Inv-loop μ-loop
+unfolding AllBelow
+mul-loads c = omega (arith, c .before .before .before .pre .0 (c .before .before .loop .i) (c .before .loop-test .taken))
+
+slice-read-loads : tie.Need-slice-read-loads Inv-loop μ-loop
+unfolding AllBelow
+slice-read-loads c = omega (arith, c .before .before .before .before .pre .0 (c .before .before .before .loop .i) (c .before .before .loop-test .taken))
+
+add-loads : tie.Need-add-loads Inv-loop μ-loop
+add-loads c = omega (arith, loaded-room _ _ _ _ (c .before .before .loop-test .taken) (c .before .before .before .loop .inv .1 .0) (c .before .before .before .before .pre .0) (c .before .before .before .before .pre .1) (c .before .before .before .loop .inv .1 .1))
+
+slice-write-loads : tie.Need-slice-write-loads Inv-loop μ-loop
+unfolding AllBelow
+slice-write-loads c = omega (arith, c .before .before .before .before .pre .0 (c .before .before .before .loop .i) (c .before .before .loop-test .taken))
+
+add-i : tie.Need-add-i Inv-loop μ-loop
+add-i c = search needs
+
+loop-less : tie.Need-loop-less Inv-loop μ-loop
+loop-less c = search needs
+
+loop-again : tie.Need-loop-again Inv-loop μ-loop
+loop-again c = (search needs, (simp length-set (omega arith), loaded-more _ _ _ _ (c .before .before .loop-test .taken) (c .before .before .before .loop .inv .1 .0) (c .before .before .before .loop .inv .1 .1)))
+
+same-length : tie.Need-same-length Inv-loop μ-loop
+same-length c = search needs
+
+returns : tie.Need-returns Inv-loop μ-loop
+returns c = rw (take-all (c .before .loop .i) (c .before .before .args .column .now) (c .loop-test .left)) at (c .before .loop .inv .1 .1)
+
+pub add-loads-spec : {M : Type 1} → statement M
+add-loads-spec =
+    tie.close
+    (tie.spec
+    Inv-loop
+    μ-loop
+    loop-holds
+    mul-r
+    shared-slice-read-r
+    cast-r
+    mul-loads
+    slice-read-loads
+    add-loads
+    slice-write-loads
+    add-i
+    loop-less
+    loop-again
+    same-length
+    returns)

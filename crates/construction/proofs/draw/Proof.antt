@@ -1,0 +1,24 @@
+-- `construction::draw` meets its contract: the machine's exclusive ors are the definition's. Assumes nothing.
+use Rattle.construction.proofs.Bits.{draw-bits}
+use native.Mathlib.Omega.{arith}
+use borrow.Author.Needs.{needs}
+use Rattle.construction.proofs.draw.Statement.{statement}
+use Rattle.construction.proofs.draw.Tie as tie
+use Rattle.construction.proofs.draw.Reads as reads
+use Rattle.construction.proofs.draw.Lts as lts
+use Rattle.construction.proofs.shift_left.Reads as shift-left-reads
+
+-- src/lib.rt:23:21
+shift-left-requires : tie.Need-shift-left-requires
+shift-left-requires c κs = search needs
+
+-- src/lib.rt:25:9
+shift-left-requires-2 : tie.Need-shift-left-requires-2
+shift-left-requires-2 c κs = search needs
+
+-- src/lib.rt:20:1
+returns : tie.Need-returns
+returns c = draw-bits _ _ _ (omega arith) (c .before .shift-left .ensures) (c .shift-left2 .ensures)
+
+pub draw-spec : {M : Type 1} → statement M
+draw-spec = tie.close (tie.spec shift-left-requires shift-left-requires-2 returns)

@@ -1,0 +1,23 @@
+-- `construction::search` meets its contract: the two parts are once round the rows. Assumes nothing.
+use native.Mathlib.Omega.{arith}
+use Rattle.construction.specs.Tables.{Below}
+use Rattle.construction.proofs.Searches.{parts-round}
+use borrow.Author.Needs.{needs}
+use Rattle.construction.proofs.search.Statement.{statement}
+use Rattle.construction.proofs.search.Tie as tie
+use Rattle.construction.proofs.search.Reads as reads
+use Rattle.construction.proofs.search.Lts as lts
+use Rattle.construction.proofs.search_part.Reads as search-part-reads
+
+search-part-requires : tie.Need-search-part-requires
+unfolding Below
+search-part-requires c κs = search needs
+
+search-part-requires-2 : tie.Need-search-part-requires-2
+search-part-requires-2 c κs = (search needs, (search needs, c .search-part .ensures .1))
+
+returns : tie.Need-returns
+returns c = (parts-round _ _ _ _ (c .before .search-part .ensures .0) (c .search-part2 .ensures .0), c .search-part2 .ensures .1)
+
+pub search-spec : {M : Type 1} → statement M
+search-spec = tie.close (tie.spec search-part-requires search-part-requires-2 returns)

@@ -1,0 +1,5 @@
+pub mod Draw
+pub mod Columns
+pub mod Quick
+pub mod Tables
+pub mod Codes

@@ -1,0 +1,70 @@
+-- `decoders::codes::decode_n512r34` meets its contract: the decode at the code's graph. Assumes nothing.
+use mathlib.Core.Path.{_≡_}
+use native.Mathlib.Omega.{arith}
+use Rattle.softmath.specs.declared.SumKind.the-variants.{Total}
+use Rattle.construction.specs.Codes.{n512r34}
+use Rattle.belief.proofs.Laid.{chose-laid}
+use Rattle.ldpc_codes.specs.Codes.{checks}
+use Rattle.ldpc_codes.proofs.N512R34.{checkStarts2, checkBits2, edgeStarts2, edges2, check-starts-right2, check-bits-right2, edge-starts-right2, edges-right2}
+use Rattle.decoders.proofs.Graphs.{staircase-graph}
+use borrow.Author.Needs.{needs}
+use Rattle.decoders.proofs.codes.decode_n512r34.Statement.{statement}
+use Rattle.decoders.proofs.codes.decode_n512r34.Tie as tie
+use Rattle.decoders.proofs.codes.decode_n512r34.Reads as reads
+use Rattle.decoders.proofs.codes.decode_n512r34.Lts as lts
+use Rattle.belief.proofs.decode.Reads as decode-reads
+
+-- src/codes.rt:104:9
+slice-aggregate-decode : tie.Need-slice-aggregate-decode
+slice-aggregate-decode c = search needs
+
+-- src/codes.rt:105:9
+slice-aggregate-decode-2 : tie.Need-slice-aggregate-decode-2
+slice-aggregate-decode-2 c = search needs
+
+-- src/codes.rt:106:9
+slice-aggregate-decode-3 : tie.Need-slice-aggregate-decode-3
+slice-aggregate-decode-3 c = search needs
+
+-- src/codes.rt:107:9
+slice-aggregate-decode-4 : tie.Need-slice-aggregate-decode-4
+slice-aggregate-decode-4 c = search needs
+
+-- src/codes.rt:100:9
+decode-requires : tie.Need-decode-requires
+unfolding checkStarts2 checkBits2 edgeStarts2 edges2
+decode-requires c κs =
+    let start = c .before .before .before .before .before .before .before .before .before in (
+      staircase-graph n512r34 checkStarts2 checkBits2 edgeStarts2 edges2 check-starts-right2 check-bits-right2 edge-starts-right2 edges-right2 (omega arith) (omega arith) _ (start .pre .0),
+      (omega arith, (omega arith, start .pre .1 .1)),
+    )
+
+-- src/codes.rt:87:1
+same-length : tie.Need-same-length
+same-length c = search needs
+
+-- src/codes.rt:87:1
+same-length-2 : tie.Need-same-length-2
+same-length-2 c = search needs
+
+-- src/codes.rt:87:1
+returns : tie.Need-returns
+unfolding checkStarts2 checkBits2 edgeStarts2 edges2
+returns c =
+    let done = c .before .before .before .before .decode in (
+      chose-laid (checks n512r34) _ checkStarts2 checkBits2 edgeStarts2 edges2 check-starts-right2 check-bits-right2 edge-starts-right2 edges-right2 _ Total _ _ _ _ _ (done .ensures .0) (done .ensures .1 .0),
+      done .ensures .1 .1,
+    )
+
+pub decode-n512r34-spec : {M : Type 1} → statement M
+decode-n512r34-spec =
+    tie.close
+    (tie.spec
+    slice-aggregate-decode
+    slice-aggregate-decode-2
+    slice-aggregate-decode-3
+    slice-aggregate-decode-4
+    decode-requires
+    same-length
+    same-length-2
+    returns)

@@ -1,0 +1,16 @@
+-- `decoders::values_of` meets its contract, code by code. Assumes nothing.
+use mathlib.Core.Path.{_≡_, refl, sym, ap, _∙_}
+use Rattle.decoders.proofs.Answers.{values-else}
+use Rattle.decoders.proofs.values_of.Statement.{statement}
+use Rattle.decoders.proofs.values_of.Tie as tie
+use Rattle.decoders.proofs.values_of.Reads as reads
+use Rattle.decoders.proofs.values_of.Lts as lts
+
+returns : tie.Need-returns
+returns c = rw (c .if1 .taken) refl
+
+returns-2 : tie.Need-returns-2
+returns-2 c = values-else _ (c .if1 .left)
+
+pub values-of-spec : {M : Type 1} → statement M
+values-of-spec = tie.close (tie.spec returns returns-2)

@@ -1,0 +1,13 @@
+-- The (P) cases of the (174,91) code's encoding and counting hold: by computation.
+use mathlib.Core.Path.{refl}
+use Rattle.crc.specs.Bits.{bitsOf, bits, numberAfter, packed}
+use Rattle.crc.specs.Cases.{Holds}
+use Rattle.tanner.specs.Checks.{xorFrom, countBytes}
+use Rattle.ldpc.specs.Cases.{codeCases}
+use Rattle.ldpc.specs.Code174.{rowsOfSeven, checks}
+use Rattle.ldpc.specs.Encoding.{under, rowsOfTwelve, parityBits, encodeBits, codewordOf}
+use Rattle.ldpc.specs.Tables.{generator, nm, numRows}
+
+pub code-cases : Holds codeCases
+unfolding bitsOf bits numberAfter packed xorFrom countBytes rowsOfSeven checks under rowsOfTwelve parityBits encodeBits codewordOf generator nm numRows
+code-cases = (refl, (refl, (refl, (refl, (refl, tt)))))

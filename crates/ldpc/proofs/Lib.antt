@@ -1,0 +1,9 @@
+pub mod Arrays
+pub mod Tests
+pub mod Graph
+pub mod Parity
+pub mod Gather
+pub mod Codeword
+pub mod Agreement
+pub mod Counting
+pub mod Cases

@@ -1,0 +1,24 @@
+-- `ldpc_codes::weight_over` meets its contract. Assumes nothing.
+use mathlib.Core.Path.{_≡_, ap}
+use native.Mathlib.Omega.{arith}
+use borrow.Author.Tests.{lt-ltb, le-ltb}
+use Rattle.refusal.specs.Outcome.{accepted}
+use Rattle.ldpc_codes.proofs.Laid.{flat-longer}
+use borrow.Author.Needs.{needs}
+use Rattle.ldpc_codes.proofs.weight_over.Statement.{statement}
+use Rattle.ldpc_codes.proofs.weight_over.Tie as tie
+use Rattle.ldpc_codes.proofs.weight_over.Reads as reads
+use Rattle.ldpc_codes.proofs.weight_over.Lts as lts
+use Rattle.tanner.proofs.count_masked.Reads as count-masked-reads
+
+returns : tie.Need-returns
+returns c = simp (lt-ltb _ _ (c .if1 .taken))
+
+count-masked-requires : tie.Need-count-masked-requires
+count-masked-requires c κs = flat-longer (c .if1 .left) (c .before .before .before .before .pre)
+
+returns-2 : tie.Need-returns-2
+returns-2 c = simp (le-ltb _ _ (c .before .if1 .left)) (ap accepted (c .count-masked .ensures))
+
+pub weight-over-spec : {M : Type 1} → statement M
+weight-over-spec = tie.close (tie.spec returns count-masked-requires returns-2)

@@ -1,0 +1,3 @@
+pub mod Staircase
+pub mod Codes
+pub mod Calls

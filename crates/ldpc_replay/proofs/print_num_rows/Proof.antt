@@ -1,0 +1,50 @@
+-- `ldpc_replay::print_num_rows` is safe and ends. The measure is the number of turns that are left.
+use Prim.Native.Nat.{_-_}
+use borrow.Author.Needs.{needs}
+use Rattle.ldpc_replay.proofs.print_num_rows.Statement.{statement}
+use Rattle.ldpc_replay.proofs.print_num_rows.Tie as tie
+
+abbrev Inv-loop : tie.InvT-loop
+Inv-loop i₀ i = Unit {0}
+
+abbrev μ-loop : tie.MeasureT-loop
+μ-loop i₀ i = 83 - i
+
+loop-holds : tie.Need-loop-holds Inv-loop μ-loop
+loop-holds c = search needs
+
+num-rows-entry-requires : tie.Need-num-rows-entry-requires Inv-loop μ-loop
+num-rows-entry-requires c κs = search needs
+
+print-byte-requires : tie.Need-print-byte-requires Inv-loop μ-loop
+print-byte-requires c κs = search needs
+
+add-i : tie.Need-add-i Inv-loop μ-loop
+add-i c = search needs
+
+loop-less : tie.Need-loop-less Inv-loop μ-loop
+loop-less c = search needs
+
+loop-again : tie.Need-loop-again Inv-loop μ-loop
+loop-again c = search needs
+
+end-line-requires : tie.Need-end-line-requires Inv-loop μ-loop
+end-line-requires c κs = search needs
+
+returns : tie.Need-returns Inv-loop μ-loop
+returns c = search needs
+
+pub print-num-rows-spec : {M : Type 1} → statement M
+print-num-rows-spec =
+    tie.close
+    (tie.spec
+    Inv-loop
+    μ-loop
+    loop-holds
+    num-rows-entry-requires
+    print-byte-requires
+    add-i
+    loop-less
+    loop-again
+    end-line-requires
+    returns)

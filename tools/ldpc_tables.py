@@ -1,0 +1,90 @@
+#!/usr/bin/env python3
+"""Writes the tables of the (174,91) code, taken from the Rust's ldpc.rs.
+
+    ORION_SRC=folder python3 tools/ldpc_tables.py crates/ldpc
+
+ORION_SRC names a folder that holds the Rust's ldpc.rs. Written are src/tables.rt (the constants of the code), specs/Tables.antt
+(the Rust's four tables as lists) and proofs/Arrays.antt (the four arrays of the Tanner graph as lists). The graph's arrays are
+worked out here from NM and NUM_ROWS; that they are right is proved in proofs/Graph.antt, and nothing rests on this script.
+Run `rt fmt` afterwards.
+"""
+import os
+import re
+import sys
+
+
+def table(text, name):
+    """The numbers of a constant, in order, the nesting of rows left out."""
+    body = re.search(r"const %s: [^=]*=\s*(.*?);\n" % name, text, re.S).group(1)
+    return [int(n, 0) for n in re.findall(r"0x[0-9a-fA-F]+|\d+", body)]
+
+
+def constant(note, name, kind, numbers, shown):
+    """A constant of the source: (note) name : [kind; n], each number shown by the format."""
+    entries = "".join("    %s,\n" % (shown % n) for n in numbers)
+    return "// %s\npub const %s: [%s; %d] = [\n%s];\n" % (note, name, kind, len(numbers), entries)
+
+
+def listed(note, name, numbers, a_line, shown):
+    """A list of antt, as many numbers to a line as a_line says."""
+    lines = []
+    for i in range(0, len(numbers), a_line):
+        lines.append("    " + " ∷ ".join(shown % n for n in numbers[i:i + a_line]) + " ∷\n")
+    return "-- %s\nunfoldable pub %s : List ℕ\n%s =\n%s    []\n" % (note, name, name, "".join(lines))
+
+
+def head(what):
+    return what + "use mathlib.Core.List.{List, [], _∷_}\nuse Prim.Native.Nat.{ℕ}\n"
+
+
+def main():
+    folder = os.environ["ORION_SRC"]
+    with open(os.path.join(folder, "ldpc.rs"), encoding="utf-8") as f:
+        text = f.read()
+    crate = sys.argv[1]
+    generator, nm, num_rows, mn = (table(text, t) for t in ("GENERATOR", "NM", "NUM_ROWS", "MN"))
+    assert (len(generator), len(nm), len(num_rows), len(mn)) == (996, 581, 83, 522)
+
+    check_start, check_bits = [0], []
+    for c in range(83):
+        check_bits += [p - 1 for p in nm[7 * c:7 * c + num_rows[c]]]
+        check_start.append(len(check_bits))
+    bit_start, bit_edges = [0], []
+    for b in range(174):
+        bit_edges += [e for e in range(len(check_bits)) if check_bits[e] == b]
+        bit_start.append(len(bit_edges))
+
+    rust = [
+        ("The parity generator: 83 rows of 12 bytes, most significant bit first. Row i gives parity bit i.", "GENERATOR", generator, 12, "0x%02x"),
+        ("The parity checks: 83 rows of up to 7 positions, counted from 1; 0 means no entry.", "NM", nm, 7, "%d"),
+        ("How many positions each row of NM has.", "NUM_ROWS", num_rows, 20, "%d"),
+        ("The checks of each of the 174 positions, three a position, counted from 1.", "MN", mn, 3, "%d"),
+    ]
+    graph = [
+        ("Where each check's positions start in CHECK_BITS, and the end of the last.", "CHECK_START", check_start, "checkStart"),
+        ("The positions of each check, counted from 0: one for each of the 522 edges.", "CHECK_BITS", check_bits, "checkBits"),
+        ("Where each position's edges start in BIT_EDGES, and the end of the last.", "BIT_START", bit_start, "bitStart"),
+        ("The edges of each position, ascending: indices in CHECK_BITS.", "BIT_EDGES", bit_edges, "bitEdge"),
+    ]
+
+    with open(os.path.join(crate, "src/tables.rt"), "w", encoding="utf-8") as f:
+        f.write("// The tables of the (174,91) code, and its Tanner graph in arrays. Written by tools/ldpc_tables.py.\n\n")
+        parts = [constant(note, name, "u8", t, shown) for note, name, t, _, shown in rust]
+        parts += [constant(note, name, "u16", t, "%d") for note, name, t, _ in graph]
+        f.write("\n".join(parts))
+
+    names = {"GENERATOR": "generator", "NM": "nm", "NUM_ROWS": "numRows", "MN": "mn"}
+    with open(os.path.join(crate, "specs/Tables.antt"), "w", encoding="utf-8") as f:
+        f.write(head("-- The four tables of the Rust's `ldpc.rs`, row after row: \"the definition takes the file's tables\" (document 01).\n"
+                     "-- Written by tools/ldpc_tables.py.\n"))
+        for note, name, t, a_line, shown in rust:
+            f.write("\n" + listed(note, names[name], t, a_line, shown))
+
+    with open(os.path.join(crate, "proofs/Arrays.antt"), "w", encoding="utf-8") as f:
+        f.write(head("-- The Tanner graph's four arrays, as the source's constants have them; `Graph.antt` shows that they are right, by computation.\n"
+                     "-- Written by tools/ldpc_tables.py.\n"))
+        for note, name, t, spelled in graph:
+            f.write("\n" + listed(note, spelled, t, 20, "%d"))
+
+
+main()
