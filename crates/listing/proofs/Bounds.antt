@@ -1,13 +1,13 @@
 -- No listing is longer than 4,096 bytes: a number has at most five digits, a frame at most 384 bits, and there are at most 24 frames. Assumes nothing.
-use mathlib.Core.Path.{_≡_, refl, ap, _∙_}
+use mathlib.Core.Path.{_≡_, refl}
 use mathlib.Core.Bool.{Bool, true, false, cond}
-use mathlib.Core.List.{List, [], _∷_, _++_}
-use Prim.Native.Nat.{ℕ, zero, suc, _+_, _-_, _*_, _/_, _≤_, _<_}
+use mathlib.Core.List.{List, [], _∷_}
+use Prim.Native.Nat.{ℕ, zero, suc, _+_, _-_, _*_, _/_, _≤_}
 use native.Mathlib.Omega.{arith}
 use lib.Dec.{ltb, eqb, lit≤}
 use lib.ListN.{length, take, drop, length-append, length-take}
-use Rattle.listing.specs.Text.{leading, decimal, byteAt, hexByte, hexFrom, hex}
-use Rattle.listing.specs.Lines.{codeWord, ruleWord, limitWord, framesWord, cleanWord, openWord, refusedWord, field, headLine, cleanOrOpen, frameLine, frameLines, refusalLine}
+use Rattle.listing.specs.Text.{leading, decimal, hexFrom, hex}
+use Rattle.listing.specs.Lines.{codeWord, ruleWord, limitWord, framesWord, cleanWord, openWord, refusedWord, headLine, cleanOrOpen, frameLine, frameLines, refusalLine}
 use Rattle.listing.specs.Input.{codeOf, ruleOf, limitOf, pairCount}
 use Rattle.listing.specs.Listing.{framesText}
 use Rattle.listing.proofs.Lengths.{decimal-length, field-length, head-length, frame-length, refusal-length}

@@ -6,7 +6,7 @@ use Prim.Native.Nat.{ℕ}
 use lib.ListN.{replicate}
 use Rattle.listing.specs.Text.{leading, decimal, byteAt, hexDigit, hexFrom, hex}
 use Rattle.listing.specs.Lines.{field, headLine, cleanOrOpen, frameLine, frameLines, refusalLine}
-use Rattle.listing.specs.Input.{pairCount, malformed}
+use Rattle.listing.specs.Input.{malformed}
 
 -- the lines of the sample: one clean frame of 91 zeros
 sample-lines :

@@ -1,6 +1,6 @@
 -- The texts of the loops, a turn at a time: the bytes of bits, and the lines of frames. Assumes nothing.
-use mathlib.Core.Path.{_≡_, refl, ap, _∙_}
-use mathlib.Core.List.{List, [], _∷_, _++_}
+use mathlib.Core.Path.{_≡_, refl}
+use mathlib.Core.List.{List, [], _++_}
 use Prim.Native.Nat.{ℕ, suc, _+_, _-_, _*_, _/_, _≤_, _<_}
 use native.Mathlib.Nat.{sub-zero, suc-mul, mul-le-mul-right}
 use native.Mathlib.Numerals.{add-one}

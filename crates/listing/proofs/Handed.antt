@@ -1,17 +1,17 @@
 -- What the batch answers for the pairs handed on is what it answers for all of them. Assumes nothing.
 use mathlib.Core.Path.{_≡_, refl, sym, ap, _∙_}
 use mathlib.Core.Bool.{Bool, true, false, cond, not, _||_}
-use mathlib.Core.List.{List, [], _∷_, _++_}
-use Prim.Native.Nat.{ℕ, zero, suc, _+_, _-_, _*_, _/_, _≤_, _<_, min}
+use mathlib.Core.List.{List, [], _∷_}
+use Prim.Native.Nat.{ℕ, zero, suc, _+_, _-_, _*_, _≤_, min}
 use native.Mathlib.Nat.{mul-le-mul}
 use native.Mathlib.Omega.{arith}
 use borrow.Author.Tests.{ltb-true, ltb-false}
 use lib.Dec.{ltb, eqb, lit≤}
 use lib.Ieee.{Float}
-use lib.ListN.{length, getD, take, drop, replicate, length-take, length-replicate}
+use lib.ListN.{length, getD, take, replicate, length-take, length-replicate}
 use lib.Seq.{take-all}
 use Rattle.softmath.specs.Single.{zero32}
-use Rattle.refusal.specs.Outcome.{Outcome, accepted, refused, Condition, judged, kept}
+use Rattle.refusal.specs.Outcome.{Outcome, Condition, judged, kept}
 use Rattle.batch.specs.Codes.{sizeK}
 use Rattle.batch.specs.Calls.{batchRefusals}
 use Rattle.listing.specs.Input.{codeOf, ruleOf, pairCount, valuesStart, pairsOf, valuesOf, malformed, u32At, u32sFrom}

@@ -1,20 +1,10 @@
 -- `batchlist::main` meets its contract. The room for the input is filled, and the listing lies within the buffer. Assumes nothing.
 use native.Mathlib.Omega.{arith}
-use mathlib.Core.Path.{_≡_, sym}
-use mathlib.Core.List.{_++_}
-use Prim.Native.Nat.{_≤_}
-use lib.ListN.{length, take, drop, length-append}
-use lib.Seq.{length-take-le, take-append-le, length-front}
+use mathlib.Core.Path.{sym}
+use lib.Seq.{length-take-le}
 use borrow.Author.Needs.{needs}
 use Rattle.batchlist.proofs.main.Statement.{statement}
 use Rattle.batchlist.proofs.main.Tie as tie
-use Rattle.batchlist.proofs.main.Reads as reads
-use Rattle.batchlist.proofs.main.Lts as lts
-use Rattle.batchlist.proofs.input_room.Reads as input-room-reads
-use Rattle.io.proofs.buffer.Reads as buffer-reads
-use Rattle.io.proofs.read_full.Reads as read-full-reads
-use Rattle.io.proofs.write_all.Reads as write-all-reads
-use Rattle.listing.proofs.list.Reads as list-reads
 
 input-room-requires : tie.Need-input-room-requires
 input-room-requires c κs = search needs

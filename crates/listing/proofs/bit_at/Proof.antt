@@ -1,11 +1,9 @@
 -- `listing::bit_at` meets its contract. Past the last bit the list has 0 by default. Assumes nothing.
-use mathlib.Core.Path.{_≡_, refl, ap, sym}
+use mathlib.Core.Path.{refl}
 use lib.ListN.{List·getD-eq-default}
 use borrow.Author.Needs.{needs}
 use Rattle.listing.proofs.bit_at.Statement.{statement}
 use Rattle.listing.proofs.bit_at.Tie as tie
-use Rattle.listing.proofs.bit_at.Reads as reads
-use Rattle.listing.proofs.bit_at.Lts as lts
 
 shared-slice-read-result : tie.Need-shared-slice-read-result
 shared-slice-read-result c = search needs

@@ -3,9 +3,6 @@ use Rattle.listing.specs.Text.{byteAt}
 use borrow.Author.Needs.{needs}
 use Rattle.listing.proofs.byte_at.Statement.{statement}
 use Rattle.listing.proofs.byte_at.Tie as tie
-use Rattle.listing.proofs.byte_at.Reads as reads
-use Rattle.listing.proofs.byte_at.Lts as lts
-use Rattle.listing.proofs.bit_at.Reads as bit-at-reads
 
 bit-at-requires : tie.Need-bit-at-requires
 bit-at-requires c κs = search needs

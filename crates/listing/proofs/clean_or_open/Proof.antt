@@ -1,13 +1,9 @@
 -- `listing::clean_or_open` meets its contract. A count of 0 is one branch, any other count the other. Assumes nothing.
-use native.Mathlib.Omega.{arith}
 use borrow.Author.Tests.{eq-eqb, ne-eqb}
 use Rattle.listing.specs.Lines.{cleanOrOpen}
 use borrow.Author.Needs.{needs}
 use Rattle.listing.proofs.clean_or_open.Statement.{statement}
 use Rattle.listing.proofs.clean_or_open.Tie as tie
-use Rattle.listing.proofs.clean_or_open.Reads as reads
-use Rattle.listing.proofs.clean_or_open.Lts as lts
-use Rattle.listing.proofs.put_text.Reads as put-text-reads
 
 slice-aggregate-put-text : tie.Need-slice-aggregate-put-text
 slice-aggregate-put-text c = search needs

@@ -1,16 +1,10 @@
 -- `listing::decode_input` meets its contract. The numbers of the header are what the readers read. Assumes nothing.
 use native.Mathlib.Omega.{arith}
-use mathlib.Core.Path.{_≡_, refl, sym, ap, _∙_}
+use mathlib.Core.Path.{refl, ap, _∙_}
 use Rattle.listing.specs.Input.{floatOf}
 use borrow.Author.Needs.{needs}
 use Rattle.listing.proofs.decode_input.Statement.{statement}
 use Rattle.listing.proofs.decode_input.Tie as tie
-use Rattle.listing.proofs.decode_input.Reads as reads
-use Rattle.listing.proofs.decode_input.Lts as lts
-use Rattle.batch.proofs.decode_batch.Reads as decode-batch-reads
-use Rattle.listing.proofs.float_of.Reads as float-of-reads
-use Rattle.listing.proofs.u16_at.Reads as u16-at-reads
-use Rattle.listing.proofs.u32_at.Reads as u32-at-reads
 
 shared-slice-read-code : tie.Need-shared-slice-read-code
 shared-slice-read-code c = search needs

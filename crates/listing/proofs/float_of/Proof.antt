@@ -1,16 +1,13 @@
 -- `listing::float_of` meets its contract. A test of the bits below the sign tells a NaN. Assumes nothing.
-use mathlib.Core.Path.{_≡_, refl, sym, _∙_}
+use mathlib.Core.Path.{refl, sym}
 use Prim.Native.Nat.{_%_}
-use lib.Ieee.{binary32, div, ofBits, nan}
+use lib.Ieee.{binary32, div, ofBits}
 use lib.Ieee.Bits.{nanBits-above}
 use borrow.Author.Tests.{lt-ltb, le-ltb}
 use Rattle.listing.specs.Input.{floatOf}
 use Rattle.listing.proofs.Load.{nan-bits}
-use borrow.Author.Needs.{needs}
 use Rattle.listing.proofs.float_of.Statement.{statement}
 use Rattle.listing.proofs.float_of.Tie as tie
-use Rattle.listing.proofs.float_of.Reads as reads
-use Rattle.listing.proofs.float_of.Lts as lts
 
 float-from-bits-result : tie.Need-float-from-bits-result
 float-from-bits-result c = rw (nanBits-above binary32 (c .before .args .bits), le-ltb 2139095040 (c .before .args .bits % 2147483648) (c .if1 .left)) tt

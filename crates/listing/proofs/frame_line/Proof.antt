@@ -1,18 +1,11 @@
 -- `listing::frame_line` meets its contract. The fields are written one after the other. Assumes nothing.
 use native.Mathlib.Omega.{arith}
-use mathlib.Core.Path.{_≡_, refl}
 use Rattle.listing.proofs.Put.{then}
 use Rattle.listing.specs.Lines.{frameLine}
 use Rattle.listing.proofs.Lengths.{frame-length}
 use borrow.Author.Needs.{needs}
 use Rattle.listing.proofs.frame_line.Statement.{statement}
 use Rattle.listing.proofs.frame_line.Tie as tie
-use Rattle.listing.proofs.frame_line.Reads as reads
-use Rattle.listing.proofs.frame_line.Lts as lts
-use Rattle.listing.proofs.clean_or_open.Reads as clean-or-open-reads
-use Rattle.listing.proofs.put_byte.Reads as put-byte-reads
-use Rattle.listing.proofs.put_decimal.Reads as put-decimal-reads
-use Rattle.listing.proofs.put_hex.Reads as put-hex-reads
 
 put-decimal-requires : tie.Need-put-decimal-requires
 put-decimal-requires c κs = omega (arith, frame-length (c .before .before .before .args .place) (c .before .before .before .args .count) (c .before .before .before .args .bits .now))

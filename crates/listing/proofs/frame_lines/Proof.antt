@@ -1,19 +1,15 @@
 -- `listing::frame_lines` meets its contract. The invariant: with the lines that are left put where the loop stands, the buffer holds them all. Assumes nothing.
 use native.Mathlib.Omega.{arith}
 use native.Mathlib.Nat.{add-sub-cancel-left}
-use mathlib.Core.Path.{_≡_, refl, sym, ap, _∙_}
-use mathlib.Core.List.{List, [], _∷_, _++_}
-use Prim.Native.Nat.{ℕ, suc, _+_, _-_, _*_, _≤_, _<_}
+use mathlib.Core.Path.{_≡_, refl, ap, _∙_}
+use Prim.Native.Nat.{_+_, _-_, _*_, _≤_}
 use lib.ListN.{length, take, drop, getD, length-append}
 use Rattle.listing.specs.Lines.{frameLine, frameLines}
-use Rattle.listing.proofs.Put.{Left, left-all, left-less, left-none}
+use Rattle.listing.proofs.Put.{Left, left-less, left-none}
 use Rattle.listing.proofs.Frames.{frame-within, frame-next, lines-more, lines-none}
 use borrow.Author.Needs.{needs}
 use Rattle.listing.proofs.frame_lines.Statement.{statement}
 use Rattle.listing.proofs.frame_lines.Tie as tie
-use Rattle.listing.proofs.frame_lines.Reads as reads
-use Rattle.listing.proofs.frame_lines.Lts as lts
-use Rattle.listing.proofs.frame_line.Reads as frame-line-reads
 
 abbrev Inv-loop : tie.InvT-loop
 Inv-loop out₀ at k counts bits next₀ from₀ j₀ out next from j = (j ≤ length counts) × (from ≡ j * k) × Left out₀ at (frameLines k 0 counts bits) out next (frameLines k j (drop j counts) (drop from bits))

@@ -1,10 +1,7 @@
 -- `listing::frames_held` meets its contract. The two cases are the two branches. Assumes nothing.
 use borrow.Author.Tests.{lt-ltb, le-ltb}
-use borrow.Author.Needs.{needs}
 use Rattle.listing.proofs.frames_held.Statement.{statement}
 use Rattle.listing.proofs.frames_held.Tie as tie
-use Rattle.listing.proofs.frames_held.Reads as reads
-use Rattle.listing.proofs.frames_held.Lts as lts
 
 returns : tie.Need-returns
 returns c = simp (lt-ltb _ _ (c .if1 .taken))

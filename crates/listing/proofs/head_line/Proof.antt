@@ -1,16 +1,11 @@
 -- `listing::head_line` meets its contract. The fields are written one after the other. Assumes nothing.
 use native.Mathlib.Omega.{arith}
-use mathlib.Core.Path.{_≡_, refl}
 use Rattle.listing.proofs.Put.{then}
 use Rattle.listing.specs.Lines.{headLine}
 use Rattle.listing.proofs.Lengths.{head-length}
 use borrow.Author.Needs.{needs}
 use Rattle.listing.proofs.head_line.Statement.{statement}
 use Rattle.listing.proofs.head_line.Tie as tie
-use Rattle.listing.proofs.head_line.Reads as reads
-use Rattle.listing.proofs.head_line.Lts as lts
-use Rattle.listing.proofs.put_byte.Reads as put-byte-reads
-use Rattle.listing.proofs.put_field.Reads as put-field-reads
 
 slice-aggregate-put-field : tie.Need-slice-aggregate-put-field
 slice-aggregate-put-field c = search needs

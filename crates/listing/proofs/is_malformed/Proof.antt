@@ -1,14 +1,11 @@
 -- `listing::is_malformed` meets its contract. Each condition is one branch. Assumes nothing.
-use mathlib.Core.Path.{_≡_, refl, sym, _∙_}
+use mathlib.Core.Path.{refl}
 use lib.ListN.{length, getD}
 use borrow.Author.Tests.{lt-ltb, le-ltb, eq-eqb, ne-eqb}
 use Rattle.listing.specs.Input.{valuesStart, malformed}
 use borrow.Author.Needs.{needs}
 use Rattle.listing.proofs.is_malformed.Statement.{statement}
 use Rattle.listing.proofs.is_malformed.Tie as tie
-use Rattle.listing.proofs.is_malformed.Reads as reads
-use Rattle.listing.proofs.is_malformed.Lts as lts
-use Rattle.listing.proofs.values_start.Reads as values-start-reads
 
 returns : tie.Need-returns
 unfolding malformed

@@ -1,17 +1,12 @@
 -- `listing::list` meets its contract. An input that is malformed is refused before all else. Assumes nothing.
 use native.Mathlib.Omega.{arith}
-use mathlib.Core.Path.{_≡_, refl, sym, ap, _∙_}
+use mathlib.Core.Path.{refl, sym, _∙_}
 use Rattle.listing.specs.Lines.{printed}
 use Rattle.listing.specs.Listing.{programRefusals, listingOf}
 use Rattle.listing.proofs.Bounds.{refusal-short}
 use borrow.Author.Needs.{needs}
 use Rattle.listing.proofs.list.Statement.{statement}
 use Rattle.listing.proofs.list.Tie as tie
-use Rattle.listing.proofs.list.Reads as reads
-use Rattle.listing.proofs.list.Lts as lts
-use Rattle.listing.proofs.is_malformed.Reads as is-malformed-reads
-use Rattle.listing.proofs.list_input.Reads as list-input-reads
-use Rattle.listing.proofs.refusal_line.Reads as refusal-line-reads
 
 is-malformed-requires : tie.Need-is-malformed-requires
 is-malformed-requires c κs = search needs

@@ -1,26 +1,15 @@
 -- `listing::list_frames` meets its contract. The outputs lent have exactly their lengths, and what is handed on has the listing's answer. Assumes nothing.
 use native.Mathlib.Omega.{arith}
-use mathlib.Core.Path.{_≡_, refl, sym, ap, _∙_}
-use mathlib.Core.List.{List, _++_}
-use Prim.Native.Nat.{ℕ, _+_, _-_, _*_, _≤_, _<_}
+use mathlib.Core.Path.{refl, sym, ap, _∙_}
+use mathlib.Core.List.{_++_}
+use Prim.Native.Nat.{ℕ, _+_, _-_, _*_, _≤_}
 use lib.ListN.{length, take, drop, getD}
-use Rattle.batch.specs.Codes.{sizeK}
-use Rattle.listing.specs.Input.{pairCount}
-use Rattle.listing.specs.Listing.{held, listingOf}
+use Rattle.listing.specs.Listing.{held}
 use Rattle.listing.proofs.Handed.{wellformed, held-few, message-short, bits-fit, listing-is}
 use Rattle.listing.proofs.Room.{part-length, left-length, back, back-fits, back-length}
 use borrow.Author.Needs.{needs}
 use Rattle.listing.proofs.list_frames.Statement.{statement}
 use Rattle.listing.proofs.list_frames.Tie as tie
-use Rattle.listing.proofs.list_frames.Reads as reads
-use Rattle.listing.proofs.list_frames.Lts as lts
-use Rattle.batch.proofs.message_bits.Reads as message-bits-reads
-use Rattle.listing.proofs.bits_room.Reads as bits-room-reads
-use Rattle.listing.proofs.counts_room.Reads as counts-room-reads
-use Rattle.listing.proofs.decode_input.Reads as decode-input-reads
-use Rattle.listing.proofs.frames_held.Reads as frames-held-reads
-use Rattle.listing.proofs.pair_count.Reads as pair-count-reads
-use Rattle.listing.proofs.write_answer.Reads as write-answer-reads
 
 pair-count-requires : tie.Need-pair-count-requires
 pair-count-requires c κs = wellformed (c .before .before .before .before .args .input .now) (c .before .before .before .before .pre .0) .head

@@ -1,25 +1,14 @@
 -- `listing::list_input` meets its contract. The arrays are loaded with the pairs handed on and with all the values. Assumes nothing.
 use native.Mathlib.Omega.{arith}
-use mathlib.Core.Path.{_≡_, refl, sym, ap, _∙_}
-use mathlib.Core.List.{List, _++_}
-use Prim.Native.Nat.{ℕ, _+_, _-_, _*_, _/_, _≤_, _<_, min}
-use lib.ListN.{length, take, drop}
-use Rattle.listing.specs.Input.{pairCount, valuesStart, valuesOf, floatOf, u32sFrom}
+use mathlib.Core.Path.{refl, sym, ap, _∙_}
+use Prim.Native.Nat.{ℕ, _-_, _*_, _/_, _≤_, min}
+use lib.ListN.{length}
+use Rattle.listing.specs.Input.{valuesOf, u32sFrom}
 use Rattle.listing.proofs.Handed.{wellformed, passed}
-use Rattle.listing.proofs.Room.{part-length, left-length, back, back-fits, back-length}
+use Rattle.listing.proofs.Room.{part-length, back, back-fits, back-length}
 use borrow.Author.Needs.{needs}
 use Rattle.listing.proofs.list_input.Statement.{statement}
 use Rattle.listing.proofs.list_input.Tie as tie
-use Rattle.listing.proofs.list_input.Reads as reads
-use Rattle.listing.proofs.list_input.Lts as lts
-use Rattle.listing.proofs.list_frames.Reads as list-frames-reads
-use Rattle.listing.proofs.load_values.Reads as load-values-reads
-use Rattle.listing.proofs.load_words.Reads as load-words-reads
-use Rattle.listing.proofs.pair_count.Reads as pair-count-reads
-use Rattle.listing.proofs.pairs_room.Reads as pairs-room-reads
-use Rattle.listing.proofs.values_room.Reads as values-room-reads
-use Rattle.listing.proofs.values_start.Reads as values-start-reads
-use Rattle.listing.proofs.words_passed.Reads as words-passed-reads
 
 pairs-room-requires : tie.Need-pairs-room-requires
 pairs-room-requires c κs = search needs

@@ -1,17 +1,13 @@
 -- `listing::load_values` meets its contract. The invariant: what is written so far is the front of the list. Assumes nothing.
 use native.Mathlib.Omega.{arith}
-use mathlib.Core.Path.{_≡_, refl, sym, ap, _∙_}
-use Prim.Native.Nat.{ℕ, _+_, _-_, _*_, _≤_, _<_}
+use mathlib.Core.Path.{_≡_, refl, ap, _∙_}
+use Prim.Native.Nat.{_-_, _≤_}
 use lib.ListN.{length, take, length-set}
-use Rattle.listing.specs.Input.{u32At, u32sFrom, floatOf}
+use Rattle.listing.specs.Input.{u32sFrom, floatOf}
 use Rattle.listing.proofs.Load.{load-more, load-none, load-done}
 use borrow.Author.Needs.{needs}
 use Rattle.listing.proofs.load_values.Statement.{statement}
 use Rattle.listing.proofs.load_values.Tie as tie
-use Rattle.listing.proofs.load_values.Reads as reads
-use Rattle.listing.proofs.load_values.Lts as lts
-use Rattle.listing.proofs.float_of.Reads as float-of-reads
-use Rattle.listing.proofs.u32_at.Reads as u32-at-reads
 
 abbrev Inv-loop : tie.InvT-loop
 Inv-loop input at values₀ i₀ values i = (i ≤ length values₀) × (length values ≡ length values₀) × (take i values ≡ u32sFrom floatOf input at i)

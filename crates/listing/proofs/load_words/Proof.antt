@@ -1,16 +1,13 @@
 -- `listing::load_words` meets its contract. The invariant: what is written so far is the front of the list. Assumes nothing.
 use native.Mathlib.Omega.{arith}
-use mathlib.Core.Path.{_≡_, refl, sym, ap, _∙_}
-use Prim.Native.Nat.{ℕ, _+_, _-_, _*_, _≤_, _<_}
+use mathlib.Core.Path.{_≡_, refl}
+use Prim.Native.Nat.{_-_, _≤_}
 use lib.ListN.{length, take, length-set}
-use Rattle.listing.specs.Input.{u32At, u32sFrom, floatOf}
+use Rattle.listing.specs.Input.{u32sFrom}
 use Rattle.listing.proofs.Load.{load-more, load-none, load-done}
 use borrow.Author.Needs.{needs}
 use Rattle.listing.proofs.load_words.Statement.{statement}
 use Rattle.listing.proofs.load_words.Tie as tie
-use Rattle.listing.proofs.load_words.Reads as reads
-use Rattle.listing.proofs.load_words.Lts as lts
-use Rattle.listing.proofs.u32_at.Reads as u32-at-reads
 
 abbrev Inv-loop : tie.InvT-loop
 Inv-loop input at words₀ i₀ words i = (i ≤ length words₀) × (length words ≡ length words₀) × (take i words ≡ u32sFrom (λ w. w) input at i)

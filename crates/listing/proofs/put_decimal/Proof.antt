@@ -1,16 +1,11 @@
 -- `listing::put_decimal` meets its contract. The digits are written one after the other. Assumes nothing.
 use native.Mathlib.Omega.{arith}
-use mathlib.Core.Path.{_≡_, refl}
 use Rattle.listing.specs.Text.{decimal}
 use Rattle.listing.proofs.Put.{then}
 use Rattle.listing.proofs.Lengths.{decimal-length}
 use borrow.Author.Needs.{needs}
 use Rattle.listing.proofs.put_decimal.Statement.{statement}
 use Rattle.listing.proofs.put_decimal.Tie as tie
-use Rattle.listing.proofs.put_decimal.Reads as reads
-use Rattle.listing.proofs.put_decimal.Lts as lts
-use Rattle.listing.proofs.put_byte.Reads as put-byte-reads
-use Rattle.listing.proofs.put_leading.Reads as put-leading-reads
 
 put-leading-requires : tie.Need-put-leading-requires
 put-leading-requires c κs = (search needs, omega (arith, decimal-length (c .before .before .args .n)))

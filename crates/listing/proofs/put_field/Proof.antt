@@ -1,16 +1,11 @@
 -- `listing::put_field` meets its contract. The word, and then the number. Assumes nothing.
 use native.Mathlib.Omega.{arith}
-use mathlib.Core.Path.{_≡_, refl}
 use Rattle.listing.proofs.Put.{then}
 use Rattle.listing.specs.Lines.{field}
 use Rattle.listing.proofs.Lengths.{field-length}
 use borrow.Author.Needs.{needs}
 use Rattle.listing.proofs.put_field.Statement.{statement}
 use Rattle.listing.proofs.put_field.Tie as tie
-use Rattle.listing.proofs.put_field.Reads as reads
-use Rattle.listing.proofs.put_field.Lts as lts
-use Rattle.listing.proofs.put_decimal.Reads as put-decimal-reads
-use Rattle.listing.proofs.put_text.Reads as put-text-reads
 
 put-text-requires : tie.Need-put-text-requires
 put-text-requires c κs = omega (arith, field-length (c .before .before .before .args .word .now) (c .before .before .before .args .n))

@@ -1,8 +1,7 @@
 -- `listing::put_hex` meets its contract. The invariant: with the bytes that are left put where the loop stands, the buffer holds the whole text. Assumes nothing.
 use native.Mathlib.Omega.{arith}
-use mathlib.Core.Path.{_≡_, refl, sym, ap, _∙_}
-use mathlib.Core.List.{List, [], _∷_, _++_}
-use Prim.Native.Nat.{ℕ, suc, _+_, _-_, _≤_, _<_}
+use mathlib.Core.Path.{refl, ap}
+use Prim.Native.Nat.{_+_, _-_}
 use lib.ListN.{length}
 use Rattle.listing.specs.Text.{byteAt, hexByte, hex}
 use Rattle.listing.proofs.Put.{Left, left-all, left-less, left-none}
@@ -10,10 +9,6 @@ use Rattle.listing.proofs.Frames.{hexRest, hex-all, hex-more, hex-none}
 use borrow.Author.Needs.{needs}
 use Rattle.listing.proofs.put_hex.Statement.{statement}
 use Rattle.listing.proofs.put_hex.Tie as tie
-use Rattle.listing.proofs.put_hex.Reads as reads
-use Rattle.listing.proofs.put_hex.Lts as lts
-use Rattle.listing.proofs.byte_at.Reads as byte-at-reads
-use Rattle.listing.proofs.put_hex_byte.Reads as put-hex-byte-reads
 
 abbrev Inv-loop : tie.InvT-loop
 Inv-loop out₀ at bits next₀ i₀ out next i = Left out₀ at (hex bits) out next (hexRest bits i)

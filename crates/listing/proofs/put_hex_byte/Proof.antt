@@ -1,14 +1,10 @@
 -- `listing::put_hex_byte` meets its contract. Two digits, one after the other. Assumes nothing.
 use native.Mathlib.Omega.{arith}
-use mathlib.Core.Path.{_≡_, refl}
+use mathlib.Core.Path.{refl}
 use Rattle.listing.proofs.Put.{then}
 use borrow.Author.Needs.{needs}
 use Rattle.listing.proofs.put_hex_byte.Statement.{statement}
 use Rattle.listing.proofs.put_hex_byte.Tie as tie
-use Rattle.listing.proofs.put_hex_byte.Reads as reads
-use Rattle.listing.proofs.put_hex_byte.Lts as lts
-use Rattle.listing.proofs.hex_digit.Reads as hex-digit-reads
-use Rattle.listing.proofs.put_byte.Reads as put-byte-reads
 
 hex-digit-requires : tie.Need-hex-digit-requires
 hex-digit-requires c κs = search needs

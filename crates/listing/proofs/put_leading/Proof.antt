@@ -1,15 +1,12 @@
 -- `listing::put_leading` meets its contract. A number below the weight has no digit there. Assumes nothing.
 use native.Mathlib.Omega.{arith}
-use mathlib.Core.Path.{_≡_, refl}
+use mathlib.Core.Path.{refl}
 use borrow.Author.Tests.{lt-ltb, le-ltb}
 use Rattle.listing.specs.Text.{leading}
 use Rattle.listing.proofs.Put.{nothing}
 use borrow.Author.Needs.{needs}
 use Rattle.listing.proofs.put_leading.Statement.{statement}
 use Rattle.listing.proofs.put_leading.Tie as tie
-use Rattle.listing.proofs.put_leading.Reads as reads
-use Rattle.listing.proofs.put_leading.Lts as lts
-use Rattle.listing.proofs.put_byte.Reads as put-byte-reads
 
 returns : tie.Need-returns
 unfolding leading

@@ -1,16 +1,11 @@
 -- `listing::refusal_line` meets its contract. The word and its number, and then the line's end. Assumes nothing.
 use native.Mathlib.Omega.{arith}
-use mathlib.Core.Path.{_≡_, refl}
 use Rattle.listing.proofs.Put.{then}
 use Rattle.listing.specs.Lines.{refusalLine}
 use Rattle.listing.proofs.Lengths.{refusal-length}
 use borrow.Author.Needs.{needs}
 use Rattle.listing.proofs.refusal_line.Statement.{statement}
 use Rattle.listing.proofs.refusal_line.Tie as tie
-use Rattle.listing.proofs.refusal_line.Reads as reads
-use Rattle.listing.proofs.refusal_line.Lts as lts
-use Rattle.listing.proofs.put_byte.Reads as put-byte-reads
-use Rattle.listing.proofs.put_field.Reads as put-field-reads
 
 slice-aggregate-put-field : tie.Need-slice-aggregate-put-field
 slice-aggregate-put-field c = search needs

@@ -4,8 +4,6 @@ use Prim.Native.Nat.{_+_}
 use borrow.Author.Needs.{needs}
 use Rattle.listing.proofs.u16_at.Statement.{statement}
 use Rattle.listing.proofs.u16_at.Tie as tie
-use Rattle.listing.proofs.u16_at.Reads as reads
-use Rattle.listing.proofs.u16_at.Lts as lts
 
 shared-slice-read-result : tie.Need-shared-slice-read-result
 shared-slice-read-result c = search needs

@@ -1,16 +1,11 @@
 -- `listing::write_answer` meets its contract. An answer with no number is followed by the frames' lines. Assumes nothing.
 use native.Mathlib.Omega.{arith}
-use mathlib.Core.Path.{_≡_, refl, sym, ap, _∙_}
+use mathlib.Core.Path.{refl}
 use Rattle.listing.specs.Lines.{printed, withText}
 use Rattle.listing.proofs.Bounds.{frames-short, refusal-short}
 use borrow.Author.Needs.{needs}
 use Rattle.listing.proofs.write_answer.Statement.{statement}
 use Rattle.listing.proofs.write_answer.Tie as tie
-use Rattle.listing.proofs.write_answer.Reads as reads
-use Rattle.listing.proofs.write_answer.Lts as lts
-use Rattle.listing.proofs.refusal_line.Reads as refusal-line-reads
-use Rattle.listing.proofs.write_frames.Reads as write-frames-reads
-use Rattle.refusal.proofs.number.Reads as number-reads
 
 enum-told : tie.Need-enum-told
 enum-told c = search needs

@@ -1,17 +1,12 @@
 -- `listing::write_frames` meets its contract. The head line, and then the frames' lines. Assumes nothing.
 use native.Mathlib.Omega.{arith}
-use mathlib.Core.Path.{_≡_, refl, sym, ap, _∙_}
+use mathlib.Core.Path.{refl}
 use Rattle.listing.specs.Listing.{framesText}
 use Rattle.listing.proofs.Put.{then}
 use Rattle.listing.proofs.Bounds.{frames-length}
 use borrow.Author.Needs.{needs}
 use Rattle.listing.proofs.write_frames.Statement.{statement}
 use Rattle.listing.proofs.write_frames.Tie as tie
-use Rattle.listing.proofs.write_frames.Reads as reads
-use Rattle.listing.proofs.write_frames.Lts as lts
-use Rattle.listing.proofs.frame_lines.Reads as frame-lines-reads
-use Rattle.listing.proofs.head_line.Reads as head-line-reads
-use Rattle.listing.proofs.u16_at.Reads as u16-at-reads
 
 shared-slice-read-code : tie.Need-shared-slice-read-code
 shared-slice-read-code c = search needs

@@ -1,20 +1,12 @@
 -- `listing_replay::list_one` meets its contract. Each part lies within its array. Assumes nothing.
 use native.Mathlib.Omega.{arith}
-use mathlib.Core.Path.{_≡_, sym}
+use mathlib.Core.Path.{sym}
 use mathlib.Core.List.{_++_}
-use Prim.Native.Nat.{_≤_}
-use lib.ListN.{length, take, drop, length-append}
-use lib.Seq.{length-take-le, take-append-le, length-front}
+use lib.ListN.{drop, length-append}
+use lib.Seq.{length-take-le, length-front}
 use borrow.Author.Needs.{needs}
 use Rattle.listing_replay.proofs.list_one.Statement.{statement}
 use Rattle.listing_replay.proofs.list_one.Tie as tie
-use Rattle.listing_replay.proofs.list_one.Reads as reads
-use Rattle.listing_replay.proofs.list_one.Lts as lts
-use Rattle.io.proofs.buffer.Reads as buffer-reads
-use Rattle.io.proofs.read_full.Reads as read-full-reads
-use Rattle.io.proofs.write_all.Reads as write-all-reads
-use Rattle.listing.proofs.list.Reads as list-reads
-use Rattle.listing_replay.proofs.input_room.Reads as input-room-reads
 
 input-room-requires : tie.Need-input-room-requires
 input-room-requires c κs = search needs

@@ -3,11 +3,6 @@ use Prim.Native.Nat.{_-_, _≤_}
 use borrow.Author.Needs.{needs}
 use Rattle.listing_replay.proofs.main.Statement.{statement}
 use Rattle.listing_replay.proofs.main.Tie as tie
-use Rattle.listing_replay.proofs.main.Reads as reads
-use Rattle.listing_replay.proofs.main.Lts as lts
-use Rattle.io.proofs.read_full.Reads as read-full-reads
-use Rattle.listing_replay.proofs.length_of.Reads as length-of-reads
-use Rattle.listing_replay.proofs.list_one.Reads as list-one-reads
 
 abbrev Inv-loop : tie.InvT-loop
 Inv-loop i₀ i = i ≤ 4096
