@@ -368,12 +368,13 @@ fn main() {
     fs::write("crates/batchlist/stdin", &first).unwrap();
     fs::write("crates/batchlist/stdout", listing(&codes, &first)).unwrap();
     fs::create_dir_all("samples").unwrap();
+    let mut all = vec![];
     for code in 0..4 {
         let s = sample(&codes, code, random);
         fs::write(format!("samples/code{code}.bin"), &s).unwrap();
         fs::write(format!("samples/code{code}.txt"), listing(&codes, &s)).unwrap();
+        all.push(s);
     }
-    let mut all = vec![];
     malformed_inputs(&mut all);
     refused_inputs(&mut all);
     longest_inputs(&codes, random, &mut all);
