@@ -5,7 +5,7 @@ use mathlib.Core.List.{List, [], _∷_}
 use Prim.Native.Nat.{ℕ, zero, suc, _+_, _-_, _*_, _≤_, min}
 use native.Mathlib.Nat.{mul-le-mul}
 use native.Mathlib.Omega.{arith}
-use borrow.Author.Tests.{ltb-true, ltb-false}
+use borrow.Author.Tests.{lt-ltb, ltb-true, ltb-false}
 use lib.Dec.{ltb, eqb, lit≤}
 use lib.Ieee.{Float}
 use lib.ListN.{length, getD, take, replicate, length-take, length-replicate}
@@ -13,6 +13,7 @@ use lib.Seq.{take-all}
 use Rattle.softmath.specs.Single.{zero32}
 use Rattle.refusal.specs.Outcome.{Outcome, Condition, judged, kept}
 use Rattle.batch.specs.Codes.{sizeK}
+use Rattle.batch.specs.Pairs as batch
 use Rattle.batch.specs.Calls.{batchRefusals}
 use Rattle.listing.specs.Input.{codeOf, ruleOf, pairCount, valuesStart, pairsOf, valuesOf, malformed, u32At, u32sFrom}
 use Rattle.listing.specs.Lines.{withText, printed}
@@ -74,17 +75,25 @@ answer-text (c ∷ cs) F x y z w = by (c .holds) refl (answer-text cs F x y z w)
 
 -- ---- more pairs than the outputs have room for
 
+-- a pair is two numbers
+pairs-half : (ns : List ℕ) → length ns ≤ 2 * length (batch.pairsOf ns) + 1
+unfolding batch.pairsOf
+pairs-half [] = omega arith
+pairs-half (o ∷ []) = omega arith
+pairs-half (o ∷ n ∷ ns) = omega (arith, pairs-half ns)
+
 -- Over 24 pairs are refused for the code, for the rule, or for their number: the other arguments do not matter.
 too-many : (code rule : ℕ) (values : List Float) (pairs pairs′ bits bits′ counts counts′ : List ℕ) (work : List Float) (text text′ : List ℕ) → 50 ≤ length pairs → 50 ≤ length pairs′
     → judged (batchRefusals code rule values pairs bits counts work) text ≡ judged (batchRefusals code rule values pairs′ bits′ counts′ work) text′
 unfolding batchRefusals
-too-many code rule values pairs pairs′ bits bits′ counts counts′ work text text′ h h′ = refl
+too-many code rule values pairs pairs′ bits bits′ counts counts′ work text text′ h h′ =
+    simp (lt-ltb 24 (length (batch.pairsOf pairs)) (omega (arith, pairs-half pairs)), lt-ltb 24 (length (batch.pairsOf pairs′)) (omega (arith, pairs-half pairs′)))
 
 -- of the outputs the lengths alone decide
 only-lengths : (code rule : ℕ) (values : List Float) (pairs bits bits′ counts counts′ : List ℕ) (work : List Float) → length bits ≡ length bits′ → length counts ≡ length counts′
     → batchRefusals code rule values pairs bits counts work ≡ batchRefusals code rule values pairs bits′ counts′ work
 unfolding batchRefusals
-only-lengths code rule values pairs bits bits′ counts counts′ work h h′ = refl
+only-lengths code rule values pairs bits bits′ counts counts′ work h h′ = rw (h, h′)
 
 -- no more than 24 frames are held
 few-held : (b : Bool) (n : ℕ) → ltb n 25 ≡ b → cond b n 0 ≤ 24
@@ -97,7 +106,10 @@ held-few n = few-held (ltb n 25) n refl
 -- no code has longer messages
 pub message-short : (code : ℕ) → sizeK code ≤ 384
 unfolding sizeK
-message-short code = omega arith
+message-short zero = lit≤ tt
+message-short (suc zero) = lit≤ tt
+message-short (suc (suc zero)) = lit≤ tt
+message-short (suc (suc (suc n))) = lit≤ tt
 
 -- the bits of the frames held have room
 pub bits-fit : (n k : ℕ) → n ≤ 24 → k ≤ 384 → n * k ≤ 9216
