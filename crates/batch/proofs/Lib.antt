@@ -1,0 +1,6 @@
+pub mod Judged
+pub mod Sizes
+pub mod Pairs
+pub mod Frames
+pub mod Whole
+pub mod Demand3

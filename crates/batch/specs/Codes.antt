@@ -1,0 +1,26 @@
+-- The four code numbers of a batch: sizes, and what is decoded.
+use mathlib.Core.List.{List}
+use Prim.Native.Nat.{ℕ, zero, suc, _+_}
+use lib.Ieee.{Float}
+use Rattle.construction.specs.Codes.{Code}
+use Rattle.ldpc_codes.specs.Codes.{codeOf}
+use Rattle.belief.specs.Rounds.{Decode}
+use Rattle.decoders.specs.Decodes.{ruleOf, staircaseDecode, ft8Decode}
+
+-- "Code 0 to 2 as above, 3 is (174,91)." (A number above 3 is refused.)
+abbrev pub byCode : {A : Type 0} → ℕ → (Code → A) → A → A
+byCode zero f a = f (codeOf 0)
+byCode (suc zero) f a = f (codeOf 1)
+byCode (suc (suc zero)) f a = f (codeOf 2)
+byCode (suc (suc (suc n))) f a = a
+
+-- N, a frame's values, and K, its message bits: "91 for code 3"
+unfoldable pub sizeN : ℕ → ℕ
+sizeN code = byCode code (λ c. c .k + c .m) 174
+
+unfoldable pub sizeK : ℕ → ℕ
+sizeK code = byCode code (λ c. c .k) 91
+
+-- the decode of a frame's values
+unfoldable pub decodeOf : ℕ → ℕ → Float → List Float → Decode
+decodeOf code rule scale llr = byCode code (λ c. staircaseDecode c (ruleOf rule scale) llr) (ft8Decode llr)
