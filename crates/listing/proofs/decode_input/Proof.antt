@@ -1,0 +1,64 @@
+-- `listing::decode_input` meets its contract. The numbers of the header are what the readers read. Assumes nothing.
+use native.Mathlib.Omega.{arith}
+use mathlib.Core.Path.{refl, ap, _∙_}
+use Rattle.listing.specs.Input.{floatOf}
+use borrow.Author.Needs.{needs}
+use Rattle.listing.proofs.decode_input.Statement.{statement}
+use Rattle.listing.proofs.decode_input.Tie as tie
+
+shared-slice-read-code : tie.Need-shared-slice-read-code
+shared-slice-read-code c = search needs
+
+cast-code : tie.Need-cast-code
+cast-code c = omega (arith, c .shared-slice-known4 .given 0)
+
+shared-slice-read-rule : tie.Need-shared-slice-read-rule
+shared-slice-read-rule c = search needs
+
+cast-rule : tie.Need-cast-rule
+cast-rule c = omega (arith, c .shared-slice-known5 .given 1)
+
+u16-at-requires : tie.Need-u16-at-requires
+u16-at-requires c κs = search needs
+
+u32-at-requires : tie.Need-u32-at-requires
+u32-at-requires c κs = search needs
+
+float-of-requires : tie.Need-float-of-requires
+float-of-requires c κs = search needs
+
+slice-aggregate-decode-batch : tie.Need-slice-aggregate-decode-batch
+slice-aggregate-decode-batch c = search needs
+
+decode-batch-requires : tie.Need-decode-batch-requires
+decode-batch-requires c κs = search needs
+
+same-length : tie.Need-same-length
+same-length c = search needs
+
+same-length-2 : tie.Need-same-length-2
+same-length-2 c = search needs
+
+returns : tie.Need-returns
+returns c =
+    let batch = c .before .before .before .before .before .decode-batch .ensures in
+    let limit = c .before .before .before .before .before .before .before .before .before .before .before .u16-at .ensures in
+    let scale = c .before .before .before .before .before .before .before .before .before .float-of .ensures ∙ ap floatOf (c .before .before .before .before .before .before .before .before .before .before .u32-at .ensures) in
+    (batch .0, (rw (limit, scale) at (batch .1 .0), rw (limit, scale) at (batch .1 .1 .0)))
+
+pub decode-input-spec : {M : Type 1} → statement M
+decode-input-spec =
+    tie.close
+    (tie.spec
+    shared-slice-read-code
+    cast-code
+    shared-slice-read-rule
+    cast-rule
+    u16-at-requires
+    u32-at-requires
+    float-of-requires
+    slice-aggregate-decode-batch
+    decode-batch-requires
+    same-length
+    same-length-2
+    returns)

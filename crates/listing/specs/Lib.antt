@@ -1,0 +1,5 @@
+pub mod Written
+pub mod Text
+pub mod Lines
+pub mod Input
+pub mod Listing

@@ -1,0 +1,392 @@
+// Writes inputs of batchlist and the listings that belong to them, every frame decoded by the Rust's ldpc.rs and ldpc_codes.rs: document 01's
+// sample (crates/batchlist), the samples of each code (samples/), and the inputs that crates/listing_replay replays.
+// Built with ORION_SRC naming a folder that holds ldpc.rs and ldpc_codes.rs; run in the repository's root:
+//
+//     ORION_SRC=folder rustc --edition 2021 -O tools/listings.rs -o listings && ./listings
+//
+// The Rust has no batch and no refusals: the pairs' tests and the lines are written here anew from document 01.
+#[allow(dead_code)]
+mod ldpc {
+    include!(concat!(env!("ORION_SRC"), "/ldpc.rs"));
+}
+#[allow(dead_code)]
+mod ldpc_codes {
+    include!(concat!(env!("ORION_SRC"), "/ldpc_codes.rs"));
+}
+
+use ldpc_codes::{DecodeRule, Ldpc, LdpcCode};
+use std::fmt::Write;
+use std::fs;
+
+// ---- the listing of an input
+
+struct Codes([Ldpc; 3]);
+
+impl Codes {
+    fn n(&self, code: u8) -> usize {
+        if code == 3 { ldpc::N } else { self.0[code as usize].n() }
+    }
+
+    fn decode(&self, code: u8, rule: u8, scale: f32, limit: u16, llr: &[f32]) -> (Vec<u8>, usize) {
+        if code == 3 {
+            let mut plain = [0u8; ldpc::N];
+            let count = ldpc::ldpc_decode_soft(llr.try_into().unwrap(), limit as usize, &mut plain);
+            return (plain[..ldpc::K].to_vec(), count);
+        }
+        let rule = match rule {
+            1 => DecodeRule::MinSum,
+            2 => DecodeRule::ScaledMinSum(scale),
+            _ => DecodeRule::SumProduct,
+        };
+        self.0[code as usize].decode_soft_with(llr, limit as usize, rule)
+    }
+}
+
+fn u16_at(s: &[u8], i: usize) -> u16 {
+    u16::from_le_bytes([s[i], s[i + 1]])
+}
+
+fn u32_at(s: &[u8], i: usize) -> u32 {
+    u32::from_le_bytes([s[i], s[i + 1], s[i + 2], s[i + 3]])
+}
+
+fn malformed(s: &[u8]) -> bool {
+    if s.len() > 65536 || s.len() < 12 || s[10] != 0 || s[11] != 0 {
+        return true;
+    }
+    let start = 12 + 8 * u16_at(s, 8) as usize;
+    s.len() < start || (s.len() - start) % 4 != 0
+}
+
+fn pair_refusal(pairs: &[(u64, u64)], n: u64, values: u64) -> Option<u8> {
+    let mut end = 0;
+    for &(offset, length) in pairs {
+        if length != n {
+            return Some(10);
+        }
+        if offset < end {
+            return Some(11);
+        }
+        if offset + length > values {
+            return Some(12);
+        }
+        end = offset + length;
+    }
+    None
+}
+
+fn refusal(codes: &Codes, code: u8, rule: u8, pairs: &[(u64, u64)], values: u64) -> Option<u8> {
+    if code > 3 {
+        return Some(1);
+    }
+    if rule > 3 {
+        return Some(2);
+    }
+    if code == 3 && (rule == 1 || rule == 2) {
+        return Some(3);
+    }
+    if pairs.len() > 24 {
+        return Some(7);
+    }
+    pair_refusal(pairs, codes.n(code) as u64, values)
+}
+
+fn hex(bits: &[u8]) -> String {
+    let mut text = String::new();
+    for part in bits.chunks(8) {
+        let mut byte = 0u8;
+        for (i, bit) in part.iter().enumerate() {
+            byte |= bit << (7 - i);
+        }
+        write!(text, "{byte:02x}").unwrap();
+    }
+    text
+}
+
+fn listing(codes: &Codes, s: &[u8]) -> String {
+    if malformed(s) {
+        return "refused 13\n".to_string();
+    }
+    let (code, rule, limit) = (s[0], s[1], u16_at(s, 2));
+    let scale = f32::from_bits(u32_at(s, 4));
+    let frames = u16_at(s, 8) as usize;
+    let pairs: Vec<(u64, u64)> = (0..frames)
+        .map(|j| (u32_at(s, 12 + 8 * j) as u64, u32_at(s, 16 + 8 * j) as u64))
+        .collect();
+    let values: Vec<f32> = s[12 + 8 * frames..]
+        .chunks(4)
+        .map(|b| f32::from_bits(u32_at(b, 0)))
+        .collect();
+    if let Some(number) = refusal(codes, code, rule, &pairs, values.len() as u64) {
+        return format!("refused {number}\n");
+    }
+    let mut text = format!("code {code} rule {rule} limit {limit} frames {frames}\n");
+    for (place, &(offset, length)) in pairs.iter().enumerate() {
+        let llr = &values[offset as usize..(offset + length) as usize];
+        let (bits, count) = codes.decode(code, rule, scale, limit, llr);
+        let state = if count == 0 { "clean" } else { "open" };
+        writeln!(text, "{place} {count} {state} {}", hex(&bits)).unwrap();
+    }
+    text
+}
+
+// ---- inputs
+
+#[derive(Clone)]
+struct Input {
+    code: u8,
+    rule: u8,
+    limit: u16,
+    scale: u32,
+    pairs: Vec<(u32, u32)>,
+    values: Vec<u32>,
+}
+
+impl Input {
+    fn new(code: u8, rule: u8, limit: u16) -> Input {
+        Input { code, rule, limit, scale: 0, pairs: vec![], values: vec![] }
+    }
+
+    fn scale(mut self, bits: u32) -> Input {
+        self.scale = bits;
+        self
+    }
+
+    fn pair(mut self, offset: u32, length: u32) -> Input {
+        self.pairs.push((offset, length));
+        self
+    }
+
+    fn values(mut self, values: &[f32]) -> Input {
+        self.values.extend(values.iter().map(|v| v.to_bits()));
+        self
+    }
+
+    // The values, with a pair that names them.
+    fn frame(self, values: &[f32]) -> Input {
+        let at = self.values.len() as u32;
+        self.pair(at, values.len() as u32).values(values)
+    }
+
+    fn bytes(&self) -> Vec<u8> {
+        let mut s = vec![self.code, self.rule];
+        s.extend(self.limit.to_le_bytes());
+        s.extend(self.scale.to_le_bytes());
+        s.extend((self.pairs.len() as u16).to_le_bytes());
+        s.extend([0, 0]);
+        for (offset, length) in &self.pairs {
+            s.extend(offset.to_le_bytes());
+            s.extend(length.to_le_bytes());
+        }
+        for bits in &self.values {
+            s.extend(bits.to_le_bytes());
+        }
+        s
+    }
+}
+
+struct Random(u64);
+
+impl Random {
+    fn word(&mut self) -> u32 {
+        self.0 ^= self.0 << 13;
+        self.0 ^= self.0 >> 7;
+        self.0 ^= self.0 << 17;
+        (self.0 >> 32) as u32
+    }
+
+    // About normal, with the variance 1: a sum of twelve.
+    fn normal(&mut self) -> f32 {
+        (0..12).map(|_| self.word() as f32 / 4294967296.0).sum::<f32>() - 6.0
+    }
+}
+
+fn codeword(codes: &Codes, code: u8, random: &mut Random) -> Vec<u8> {
+    if code == 3 {
+        let mut message = [0u8; ldpc::K_BYTES];
+        for byte in message.iter_mut() {
+            *byte = random.word() as u8;
+        }
+        message[11] &= 0xE0;
+        let mut word = [0u8; ldpc::N_BYTES];
+        ldpc::ldpc_encode(&message, &mut word);
+        return (0..ldpc::N).map(|i| word[i / 8] >> (7 - i % 8) & 1).collect();
+    }
+    let c = &codes.0[code as usize];
+    let message: Vec<u8> = (0..c.k()).map(|_| random.word() as u8 & 1).collect();
+    c.encode(&message)
+}
+
+// A random codeword's log-likelihood ratios after noise of that deviation; a positive value is a zero.
+fn noisy(codes: &Codes, code: u8, noise: f32, random: &mut Random) -> Vec<f32> {
+    codeword(codes, code, random)
+        .iter()
+        .map(|&bit| 2.0 / (noise * noise) * (if bit == 0 { 1.0 } else { -1.0 } + noise * random.normal()))
+        .collect()
+}
+
+// Malformed inputs, and some that are just not.
+fn malformed_inputs(all: &mut Vec<Vec<u8>>) {
+    let head = Input::new(3, 0, 20).bytes();
+    all.push(vec![]);
+    all.push(head[..11].to_vec());
+    all.push(head.clone());
+    for place in [10, 11] {
+        let mut s = head.clone();
+        s[place] = 1;
+        all.push(s);
+    }
+    for extra in 1..5 {
+        let mut s = head.clone();
+        s.extend(vec![0; extra]);
+        all.push(s);
+    }
+    let one = Input::new(3, 0, 20).pair(0, 174).bytes();
+    for length in [12, 13, 19, 20] {
+        all.push(one[..length].to_vec());
+    }
+    // 13 before 1, 2 and 3
+    for (code, rule) in [(4, 0), (0, 4), (3, 1)] {
+        let mut s = Input::new(code, rule, 0).bytes();
+        s.push(0);
+        all.push(s);
+    }
+}
+
+fn refused_inputs(all: &mut Vec<Vec<u8>>) {
+    for (code, rule) in [(4, 0), (255, 255), (0, 4), (3, 255), (3, 1), (3, 2), (4, 4), (2, 3)] {
+        all.push(Input::new(code, rule, 7).bytes());
+    }
+    let values = [1.0f32; 348];
+    let two = |a: (u32, u32), b: (u32, u32)| Input::new(3, 0, 1).pair(a.0, a.1).pair(b.0, b.1).values(&values).bytes();
+    all.push(two((0, 174), (174, 174)));
+    all.push(two((0, 174), (173, 174)));
+    all.push(two((0, 174), (175, 174)));
+    all.push(two((0, 173), (174, 174)));
+    all.push(two((0, 174), (0, 173)));
+    all.push(two((174, 174), (0, 174)));
+    let largest = u32::MAX;
+    for pair in [
+        (largest, 174),
+        (largest - 173, 174),
+        (largest - 174, 174),
+        (0, largest),
+        (largest, largest),
+        (174, largest - 173),
+        (1, 174),
+        (0, 0),
+    ] {
+        all.push(Input::new(3, 0, 1).pair(pair.0, pair.1).values(&values[..174]).bytes());
+        all.push(two((0, 174), pair));
+    }
+    let many = |count: usize| {
+        let mut input = Input::new(3, 0, 1);
+        input.pairs = (0..count as u32).map(|j| (174 * j, 174)).collect();
+        input
+    };
+    for count in [24, 25, 26, 49] {
+        all.push(many(count).values(&[1.0; 10]).bytes());
+    }
+    for (code, rule) in [(3, 0), (4, 0), (0, 4), (3, 1)] {
+        let mut most = many(8190).values(&[1.0]);
+        most.code = code;
+        most.rule = rule;
+        all.push(most.bytes());
+    }
+    let mut uncounted = many(8190).bytes();
+    uncounted.truncate(65531);
+    all.push(uncounted);
+}
+
+// As many values as fit 65,536 bytes, 24 frames among them; and one byte, and one value, more.
+fn longest_inputs(codes: &Codes, random: &mut Random, all: &mut Vec<Vec<u8>>) {
+    let mut input = Input::new(1, 1, 3);
+    for _ in 0..24 {
+        input = input.frame(&noisy(codes, 1, 0.6, random));
+    }
+    let left = (65536 - input.bytes().len()) / 4;
+    input = input.values(&vec![1.0; left]);
+    let mut s = input.bytes();
+    all.push(s.clone());
+    s.push(0);
+    all.push(s);
+}
+
+// Frames of each code under each rule, with gaps between them, at several noises and limits.
+fn decoded_inputs(codes: &Codes, random: &mut Random, all: &mut Vec<Vec<u8>>) {
+    for code in 0..4 {
+        for rule in 0..4 {
+            for limit in [0, 1, 2, 15] {
+                let mut input = Input::new(code, rule, limit).scale(0.75f32.to_bits());
+                for noise in [0.4, 0.8] {
+                    input = input.values(&[9.0]).frame(&noisy(codes, code, noise, random));
+                }
+                all.push(input.bytes());
+            }
+        }
+    }
+    for scale in [0x7FC0_0000, 0xFF80_0001, 0x7F80_0000, 0x8000_0000, 0x0000_0001] {
+        let input = Input::new(0, 2, 4).scale(scale);
+        all.push(input.frame(&noisy(codes, 0, 0.7, random)).bytes());
+    }
+}
+
+// Values that are zeros of either sign, infinities, or NaN by any of its patterns.
+fn odd_inputs(codes: &Codes, random: &mut Random, all: &mut Vec<Vec<u8>>) {
+    for code in 0..4 {
+        let n = codes.n(code);
+        for bits in [0, 0x8000_0000, 0x7F80_0000, 0xFF80_0000, 0x7FC0_0000, 0xFFFF_FFFF, 0x7F80_0001] {
+            for limit in [0, 2] {
+                let mut input = Input::new(code, 0, limit).frame(&vec![1.0; n]);
+                input.values = vec![bits; n];
+                all.push(input.bytes());
+            }
+            let mut mixed = Input::new(code, 0, 2).frame(&noisy(codes, code, 0.5, random));
+            for i in (0..n).step_by(7) {
+                mixed.values[i] = bits;
+            }
+            all.push(mixed.bytes());
+        }
+    }
+    all.push(Input::new(3, 3, 65535).frame(&[1.0; 174]).bytes());
+    all.push(Input::new(3, 0, 200).frame(&noisy(codes, 3, 1.5, random)).bytes());
+}
+
+// Several noisy frames of one code.
+fn sample(codes: &Codes, code: u8, random: &mut Random) -> Vec<u8> {
+    let mut input = Input::new(code, 0, 30);
+    for noise in [0.3, 0.45, 0.55, 0.65, 0.9] {
+        input = input.frame(&noisy(codes, code, noise, random));
+    }
+    input.bytes()
+}
+
+fn main() {
+    let codes = Codes([LdpcCode::N512R12, LdpcCode::N576R23, LdpcCode::N512R34].map(Ldpc::new));
+    let random = &mut Random(0x9E37_79B9_7F4A_7C15);
+    let first = Input::new(3, 0, 20).frame(&[1.0; 174]).bytes();
+    fs::write("crates/batchlist/stdin", &first).unwrap();
+    fs::write("crates/batchlist/stdout", listing(&codes, &first)).unwrap();
+    fs::create_dir_all("samples").unwrap();
+    let mut all = vec![];
+    for code in 0..4 {
+        let s = sample(&codes, code, random);
+        fs::write(format!("samples/code{code}.bin"), &s).unwrap();
+        fs::write(format!("samples/code{code}.txt"), listing(&codes, &s)).unwrap();
+        all.push(s);
+    }
+    malformed_inputs(&mut all);
+    refused_inputs(&mut all);
+    longest_inputs(&codes, random, &mut all);
+    decoded_inputs(&codes, random, &mut all);
+    odd_inputs(&codes, random, &mut all);
+    let mut stdin = vec![];
+    let mut stdout = String::new();
+    for s in &all {
+        stdin.extend((s.len() as u32).to_le_bytes());
+        stdin.extend(s);
+        stdout += &listing(&codes, s);
+    }
+    fs::write("crates/listing_replay/stdin", stdin).unwrap();
+    fs::write("crates/listing_replay/stdout", stdout).unwrap();
+}
