@@ -1,4 +1,5 @@
 //! What the comparison and the benchmark share: random numbers from printed seeds, and channel values of every kind.
+#![allow(dead_code)] // each user takes a part of it
 
 /// SplitMix64.
 pub struct Random(pub u64);
