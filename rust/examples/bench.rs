@@ -1,5 +1,6 @@
 //! Each call, the port and the original Rust side by side on the same inputs: best of many, in microseconds a call.
-//! Run by `cargo run --release --example bench` in rust/, with the original sources found as build.rs says.
+//! Run by `cargo run --release --example bench` in rust/, with the original sources found as build.rs says. A word after
+//! `--` limits the table to the rows whose name has it.
 #[path = "../tests/common/mod.rs"]
 mod common;
 
@@ -39,6 +40,9 @@ mod compared {
 
     /// One row: both sides by turns, the best sample of each.
     fn row(name: &str, port: &mut dyn FnMut(), original: &mut dyn FnMut()) {
+        if std::env::args().nth(1).is_some_and(|word| !name.contains(&word)) {
+            return;
+        }
         let mut best = [f64::MAX; 2];
         let mut times = [1, 1];
         let mut sides: [&mut dyn FnMut(); 2] = [port, original];
@@ -82,8 +86,8 @@ mod compared {
         let (mut a, mut b) = ([0; 12], [0; 12]);
         row(
             "ft8_crc14, 82 bits",
-            &mut || drop(black_box(desklink::ft8_crc14(black_box(&block), 82))),
-            &mut || drop(black_box(orion::crc::ft8_crc14(black_box(&block), 82))),
+            &mut || _ = black_box(desklink::ft8_crc14(black_box(&block), 82)),
+            &mut || _ = black_box(orion::crc::ft8_crc14(black_box(&block), 82)),
         );
         row(
             "ft8_add_crc",
@@ -92,8 +96,8 @@ mod compared {
         );
         row(
             "ft8_extract_crc",
-            &mut || drop(black_box(desklink::ft8_extract_crc(black_box(&block)))),
-            &mut || drop(black_box(orion::crc::ft8_extract_crc(black_box(&block)))),
+            &mut || _ = black_box(desklink::ft8_extract_crc(black_box(&block))),
+            &mut || _ = black_box(orion::crc::ft8_extract_crc(black_box(&block))),
         );
     }
 
@@ -109,11 +113,11 @@ mod compared {
         let hard: [u8; 174] = random.bits(174).try_into().unwrap();
         row(
             "ldpc_count_errors",
-            &mut || drop(black_box(desklink::ldpc_count_errors(black_box(&hard)))),
-            &mut || drop(black_box(orion::ldpc::ldpc_count_errors(black_box(&hard)))),
+            &mut || _ = black_box(desklink::ldpc_count_errors(black_box(&hard))),
+            &mut || _ = black_box(orion::ldpc::ldpc_count_errors(black_box(&hard))),
         );
         for (kind, (what, _)) in NOISE.iter().enumerate() {
-            let frames: Vec<[f32; 174]> = frames(random, kind, 0.65, &mut ft8_word).into_iter().map(|f| f.try_into().unwrap()).collect();
+            let frames: Vec<[f32; 174]> = frames(random, kind, 0.5, &mut ft8_word).into_iter().map(|f| f.try_into().unwrap()).collect();
             for count in [1, 24] {
                 let (mut a, mut b) = ([0; 174], [0; 174]);
                 row(
@@ -144,8 +148,8 @@ mod compared {
         let hard = random.bits(code.n());
         row(
             &format!("{code:?} syndrome_weight"),
-            &mut || drop(black_box(port.syndrome_weight(black_box(&hard)))),
-            &mut || drop(black_box(original.syndrome_weight(black_box(&hard)))),
+            &mut || _ = black_box(port.syndrome_weight(black_box(&hard))),
+            &mut || _ = black_box(original.syndrome_weight(black_box(&hard))),
         );
         let rules = [
             ("sum-product", DecodeRule::SumProduct, orion::ldpc_codes::DecodeRule::SumProduct),
@@ -184,7 +188,7 @@ mod compared {
         staircase(random, LdpcCode::N512R34, orion::ldpc_codes::LdpcCode::N512R34, 0.5);
         row(
             "Ldpc::new, N512R12",
-            &mut || drop(black_box(Ldpc::new(black_box(LdpcCode::N512R12)))),
+            &mut || _ = black_box(Ldpc::new(black_box(LdpcCode::N512R12))),
             &mut || drop(black_box(orion::ldpc_codes::Ldpc::new(black_box(orion::ldpc_codes::LdpcCode::N512R12)))),
         );
     }

@@ -1,11 +1,13 @@
--- The two loops of min-sum: a turn of each, from the laws of loops over a list. Assumes nothing.
+-- Min-sum: a turn of each of its two loops, from the laws of loops over a list, and what is kept of one message more, part by part. Assumes nothing.
+use mathlib.Core.Bool.{Bool, true, false, cond}
 use mathlib.Core.Path.{_≡_, refl}
 use mathlib.Core.List.{List, _++_}
 use Prim.Native.Nat.{ℕ, suc, _+_, _≤_, _<_}
 use native.Mathlib.Numerals.{add-one}
 use lib.ListN.{length, take, drop, getD, set}
-use lib.Ieee.{Float, nan}
-use Rattle.softmath.specs.CheckNode.{seen, minimaFrom, minAnswer, minAnswers}
+use lib.Ieee.{Float, nan, lt}
+use Rattle.softmath.specs.CheckNode.{turned, seen, minimaFrom, minAnswer, minAnswers}
+use Rattle.softmath.specs.Functions.{magnitudeOf}
 use Rattle.softmath.specs.declared.Minima.{Minima}
 use Rattle.softmath.proofs.InPlace.{place-more, place-done, read-more}
 
@@ -25,3 +27,19 @@ module _ (scale : Float) (m : Minima) where
   pub answers-done : (l r : List Float) (i : ℕ) → length l ≤ i → take i l ++ minAnswers scale m i (drop i l) ≡ r → l ≡ r
   unfolding minAnswers
   answers-done l r i h k = place-done (minAnswers scale m) (λ i x xs. minAnswer scale m i x) (λ i x. suc i) (λ i x xs. refl) nan (λ i. refl) l r i i h k
+
+-- the parts of what is kept, each chosen by itself, are the parts of what the two tests choose together
+chosen-apart : (x y : Bool) (m : Minima) (a : Float) (i : ℕ) (g : Float) → _≡_ {A = Minima}
+    (record { least = cond x a (m .least); second = cond x (m .least) (cond y a (m .second)); place = cond x i (m .place); sign = g })
+    (cond x (record { least = a; second = m .least; place = i; sign = g })
+    (cond y (record { least = m .least; second = a; place = m .place; sign = g }) (record { least = m .least; second = m .second; place = m .place; sign = g })))
+chosen-apart true y m a i g = refl
+chosen-apart false true m a i g = refl
+chosen-apart false false m a i g = refl
+
+pub seen-apart : (m : Minima) (i : ℕ) (v a l t s : Float) (p : ℕ) (g : Float) → a ≡ magnitudeOf v → l ≡ cond (lt a (m .least)) a (m .least) → t ≡ cond (lt a (m .second)) a (m .second)
+    → s ≡ cond (lt a (m .least)) (m .least) t → p ≡ cond (lt a (m .least)) i (m .place) → g ≡ turned v (m .sign)
+    → _≡_ {A = Minima} (record { least = l; second = s; place = p; sign = g }) (seen m i v)
+unfolding seen
+seen-apart m i v a l t s p g ea el et es ep eg =
+    rw (el, es, et, ep, eg, ea) (chosen-apart (lt (magnitudeOf v) (m .least)) (lt (magnitudeOf v) (m .second)) m (magnitudeOf v) i (turned v (m .sign)))

@@ -1,6 +1,9 @@
 // The f32 arithmetic of a decoding round: the check step and the variable node, each operation rounded once in a fixed order.
 ghost use mathlib.Core.Path.{_≡_};
+ghost use mathlib.Core.Bool.{cond};
 ghost use mathlib.Core.List.{map};
+ghost use lib.Dec.{eqb};
+ghost use lib.Ieee.{lt};
 ghost use lib.ListN.{length};
 ghost use Rattle.softmath.specs.Single.{_⊘_, _⊗_, foldFrom, product, sumFrom};
 ghost use Rattle.softmath.specs.Functions.{tanh, atanh, clampUnit, magnitudeOf, decide};
@@ -146,31 +149,36 @@ fn turn_sign(v: f32, sign: f32) -> f32
     if v < 0.0 { -sign } else { sign }
 }
 
+// The lesser of two: b where neither is less, which a NaN never is.
+fn lesser(a: f32, b: f32) -> f32
+    ensures { λ r. ⌜ r ≡ cond (lt a b) a b ⌝ }
+{
+    if a < b { a } else { b }
+}
+
+// The least so far where a is less, and otherwise x: one of two values at hand, so that no jump depends on the messages.
+fn pushed(a: f32, least: f32, x: f32) -> f32
+    ensures { λ r. ⌜ r ≡ cond (lt a least) least x ⌝ }
+{
+    if a < least { least } else { x }
+}
+
+// The place of the least: i where a is less than the least so far.
+fn least_place(a: f32, least: f32, i: usize, place: usize) -> usize
+    ensures { λ r. ⌜ r ≡ cond (lt a least) i place ⌝ }
+{
+    if a < least { i } else { place }
+}
+
 // One message more: a NaN is below nothing.
 fn note(m: Minima, i: usize, v: f32) -> Minima
     ensures { λ r. ⌜ r ≡ seen m i v ⌝ }
 {
     let a = magnitude(v);
-    let least = m.least;
-    let second = m.second;
-    let place = m.place;
+    let least = lesser(a, m.least);
+    let second = pushed(a, m.least, lesser(a, m.second));
+    let place = least_place(a, m.least, i, m.place);
     let sign = turn_sign(v, m.sign);
-    if a < least {
-        return Minima {
-            least: a,
-            second: least,
-            place: i,
-            sign: sign,
-        };
-    }
-    if a < second {
-        return Minima {
-            least: least,
-            second: a,
-            place: place,
-            sign: sign,
-        };
-    }
     Minima {
         least: least,
         second: second,
@@ -198,16 +206,21 @@ fn least_two(part: &[f32]) -> Minima
     m
 }
 
+// The least magnitude of the others: the second at the least's own place.
+fn other_least(m: Minima, i: usize) -> f32
+    ensures { λ r. ⌜ r ≡ cond (eqb i (m .place)) (m .second) (m .least) ⌝ }
+{
+    let least = m.least;
+    let second = m.second;
+    if i == m.place { second } else { least }
+}
+
 // (scale times sign) times magnitude.
 fn min_answer(scale: f32, m: Minima, i: usize, v: f32) -> f32
     ensures { λ r. ⌜ r ≡ minAnswer scale m i v ⌝ }
 {
     let sign = turn_sign(v, m.sign);
-    if i == m.place {
-        scale * sign * m.second
-    } else {
-        scale * sign * m.least
-    }
+    scale * sign * other_least(m, i)
 }
 
 // Min-sum in place: the answers to a check's messages.
