@@ -142,6 +142,33 @@ fn products(part: &mut [f32])
     }
 }
 
+// The same with the degrees of the codes as numbers that the compiler sees, so that it unrolls the loops for each.
+fn products_by_degree(part: &mut [f32])
+    ensures { λ _. ⌜ now (part .exit) ≡ atEach product (now (part .entry)) ⌝ }
+{
+    if part.len() == 5 {
+        products(&mut part[..5]);
+        return;
+    }
+    if part.len() == 6 {
+        products(&mut part[..6]);
+        return;
+    }
+    if part.len() == 7 {
+        products(&mut part[..7]);
+        return;
+    }
+    if part.len() == 8 {
+        products(&mut part[..8]);
+        return;
+    }
+    if part.len() == 11 {
+        products(&mut part[..11]);
+        return;
+    }
+    products(part);
+}
+
 // The sign with v's: a NaN and -0.0 are not negative.
 fn turn_sign(v: f32, sign: f32) -> f32
     ensures { λ r. ⌜ r ≡ turned v sign ⌝ }
@@ -235,22 +262,41 @@ fn min_sum(scale: f32, part: &mut [f32])
     }
 }
 
+// The same with the degrees of the staircase codes as numbers that the compiler sees.
+fn min_sum_by_degree(scale: f32, part: &mut [f32])
+    ensures { λ _. ⌜ now (part .exit) ≡ minSum scale (now (part .entry)) ⌝ }
+{
+    if part.len() == 5 {
+        min_sum(scale, &mut part[..5]);
+        return;
+    }
+    if part.len() == 8 {
+        min_sum(scale, &mut part[..8]);
+        return;
+    }
+    if part.len() == 11 {
+        min_sum(scale, &mut part[..11]);
+        return;
+    }
+    min_sum(scale, part);
+}
+
 // What a rule does to the messages of one check together.
 pub fn at_check(rule: DecodeRule, part: &mut [f32])
     ensures { λ _. ⌜ now (part .exit) ≡ middle rule (now (part .entry)) ⌝ }
 {
     match rule {
         DecodeRule::SumProduct => {
-            products(part);
+            products_by_degree(part);
         }
         DecodeRule::Ft8 => {
-            products(part);
+            products_by_degree(part);
         }
         DecodeRule::MinSum => {
-            min_sum(1.0, part);
+            min_sum_by_degree(1.0, part);
         }
         DecodeRule::ScaledMinSum(scale) => {
-            min_sum(scale, part);
+            min_sum_by_degree(scale, part);
         }
     }
 }
@@ -340,7 +386,7 @@ fn sum_others(llr: f32, work: &mut [f32], edges: &[u16])
 }
 
 // A bit's decision, from its answers in the work area, and its new messages in their place.
-pub fn bit_step(kind: SumKind, llr: f32, work: &mut [f32], edges: &[u16]) -> u8
+fn turn_bit(kind: SumKind, llr: f32, work: &mut [f32], edges: &[u16]) -> u8
     requires { ⌜ EdgesWithin (now edges) (length (now work)) ⌝ }
     ensures { λ r. ⌜ r ≡ decide (decisionSum llr (answersAt (now (work .entry)) (now (edges .entry)))) ⌝ }
     ensures { λ _. ⌜ now (work .exit) ≡ bitTurned kind llr (now (edges .entry)) (now (work .entry)) ⌝ }
@@ -356,4 +402,19 @@ pub fn bit_step(kind: SumKind, llr: f32, work: &mut [f32], edges: &[u16]) -> u8
         }
     }
     bit
+}
+
+// The same with the degrees of the codes' bits as numbers that the compiler sees.
+pub fn bit_step(kind: SumKind, llr: f32, work: &mut [f32], edges: &[u16]) -> u8
+    requires { ⌜ EdgesWithin (now edges) (length (now work)) ⌝ }
+    ensures { λ r. ⌜ r ≡ decide (decisionSum llr (answersAt (now (work .entry)) (now (edges .entry)))) ⌝ }
+    ensures { λ _. ⌜ now (work .exit) ≡ bitTurned kind llr (now (edges .entry)) (now (work .entry)) ⌝ }
+{
+    if edges.len() == 3 {
+        return turn_bit(kind, llr, work, &edges[..3]);
+    }
+    if edges.len() == 2 {
+        return turn_bit(kind, llr, work, &edges[..2]);
+    }
+    turn_bit(kind, llr, work, edges)
 }
