@@ -1,9 +1,9 @@
 // The f32 arithmetic of a decoding round: the check step and the variable node, each operation rounded once in a fixed order.
 ghost use mathlib.Core.Path.{_≡_};
-ghost use mathlib.Core.Bool.{cond};
+ghost use mathlib.Core.Bool.{true, cond};
 ghost use mathlib.Core.List.{map};
 ghost use lib.Dec.{eqb};
-ghost use lib.Ieee.{lt};
+ghost use lib.Ieee.{neg, lt, eq};
 ghost use lib.ListN.{length};
 ghost use Rattle.softmath.specs.Single.{_⊘_, _⊗_, foldFrom, product, sumFrom};
 ghost use Rattle.softmath.specs.Functions.{tanh, atanh, clampUnit, magnitudeOf, decide};
@@ -68,15 +68,21 @@ pub fn clamp_unit(x: f32) -> f32
     }
 }
 
-// The value without its sign: 0.0 for both zeros, a NaN for a NaN.
+// The greater of a value and its negative: the negative where neither is, as at a zero.
+fn greater_sign(x: f32) -> f32
+    ensures { λ r. ⌜ r ≡ cond (lt (neg x) x) x (neg x) ⌝ }
+{
+    let n = -x;
+    if n < x { x } else { n }
+}
+
+// The value without its sign: 0.0 for both zeros, a NaN for a NaN. It does not ask whether x is below zero, as the sign's
+// test does: a test of floats that chooses twice would become a jump.
 pub fn magnitude(x: f32) -> f32
     ensures { λ r. ⌜ r ≡ magnitudeOf x ⌝ }
 {
-    if x < 0.0 {
-        -x
-    } else {
-        if x == 0.0 { 0.0 } else { x }
-    }
+    let w = greater_sign(x);
+    if w == 0.0 { 0.0 } else { w }
 }
 
 // The bit that a sum decides: 1 at or below zero, 0 for a NaN.
@@ -190,21 +196,22 @@ fn pushed(a: f32, least: f32, x: f32) -> f32
     if a < least { least } else { x }
 }
 
-// The place of the least: i where a is less than the least so far.
-fn least_place(a: f32, least: f32, i: usize, place: usize) -> usize
-    ensures { λ r. ⌜ r ≡ cond (lt a least) i place ⌝ }
+// The place of the least: i where the least has changed.
+fn least_place(least: f32, before: f32, i: usize, place: usize) -> usize
+    ensures { λ r. ⌜ r ≡ cond (eq least before) place i ⌝ }
 {
-    if a < least { i } else { place }
+    if least == before { place } else { i }
 }
 
-// One message more: a NaN is below nothing.
+// One message more: a NaN is below nothing, and never the least.
 fn note(m: Minima, i: usize, v: f32) -> Minima
+    requires { ⌜ eq (m .least) (m .least) ≡ true ⌝ }
     ensures { λ r. ⌜ r ≡ seen m i v ⌝ }
 {
     let a = magnitude(v);
     let least = lesser(a, m.least);
     let second = pushed(a, m.least, lesser(a, m.second));
-    let place = least_place(a, m.least, i, m.place);
+    let place = least_place(least, m.least, i, m.place);
     let sign = turn_sign(v, m.sign);
     Minima {
         least: least,
@@ -262,25 +269,6 @@ fn min_sum(scale: f32, part: &mut [f32])
     }
 }
 
-// The same with the degrees of the staircase codes as numbers that the compiler sees.
-fn min_sum_by_degree(scale: f32, part: &mut [f32])
-    ensures { λ _. ⌜ now (part .exit) ≡ minSum scale (now (part .entry)) ⌝ }
-{
-    if part.len() == 5 {
-        min_sum(scale, &mut part[..5]);
-        return;
-    }
-    if part.len() == 8 {
-        min_sum(scale, &mut part[..8]);
-        return;
-    }
-    if part.len() == 11 {
-        min_sum(scale, &mut part[..11]);
-        return;
-    }
-    min_sum(scale, part);
-}
-
 // What a rule does to the messages of one check together.
 pub fn at_check(rule: DecodeRule, part: &mut [f32])
     ensures { λ _. ⌜ now (part .exit) ≡ middle rule (now (part .entry)) ⌝ }
@@ -293,10 +281,10 @@ pub fn at_check(rule: DecodeRule, part: &mut [f32])
             products_by_degree(part);
         }
         DecodeRule::MinSum => {
-            min_sum_by_degree(1.0, part);
+            min_sum(1.0, part);
         }
         DecodeRule::ScaledMinSum(scale) => {
-            min_sum_by_degree(scale, part);
+            min_sum(scale, part);
         }
     }
 }

@@ -30,7 +30,7 @@ returns c =
     let lesser2 = second .before in
     let least = lesser2 .before in
     let size = least .before in
-    seen-apart _ _ _ _ _ _ _ _ _ (size .magnitude .ensures) (least .lesser .ensures) (lesser2 .lesser2 .ensures) (second .pushed .ensures) (place .least-place .ensures) (c .turn-sign .ensures)
+    seen-apart _ _ _ _ _ _ _ _ _ (size .before .pre) (size .magnitude .ensures) (least .lesser .ensures) (lesser2 .lesser2 .ensures) (second .pushed .ensures) (place .least-place .ensures) (c .turn-sign .ensures)
 
 pub note-spec : {M : Type 1} → statement M
 note-spec =
