@@ -59,17 +59,37 @@ mod compared {
         println!("| {name} | {port:.3} | {original:.3} | {:.2} |", port / original);
     }
 
-    /// Frames that decode at once, after a few rounds, and never.
-    const NOISE: [(&str, f64); 3] = [("at once", 0.0), ("a few rounds", 0.0), ("never", 4.0)];
+    const LIMIT: u16 = 20;
 
-    fn frames(random: &mut Random, kind: usize, few: f64, word: &mut dyn FnMut(&mut Random) -> Vec<u8>) -> Vec<Vec<f32>> {
-        let sigma = if kind == 1 { few } else { NOISE[kind].1 };
-        (0..24)
-            .map(|_| {
-                let word = word(random);
-                noisy(random, &word, sigma)
-            })
-            .collect()
+    /// The kinds of frames: 24 of each that the original Rust decodes with no round, with 2 to 8 rounds, and not at all.
+    const KINDS: [&str; 3] = ["at once", "2 to 8 rounds", "never"];
+
+    /// The least rounds of the kind, and the rounds by which it is decoded; the third kind is not decoded by the limit.
+    fn is_of_kind(kind: usize, count: &mut dyn FnMut(&[f32], u16) -> usize, llr: &[f32]) -> bool {
+        match kind {
+            0 => count(llr, 0) == 0,
+            1 => count(llr, 1) > 0 && count(llr, 8) == 0,
+            _ => count(llr, LIMIT) > 0,
+        }
+    }
+
+    fn frames(
+        random: &mut Random,
+        kind: usize,
+        word: &mut dyn FnMut(&mut Random) -> Vec<u8>,
+        count: &mut dyn FnMut(&[f32], u16) -> usize,
+    ) -> Vec<Vec<f32>> {
+        let mut found = Vec::new();
+        while found.len() < 24 {
+            let word = word(random);
+            let sigma = [0.0, 0.3 + 0.6 * random.unit(), 3.0][kind];
+            let mut llr = noisy(random, &word, sigma);
+            llr.iter_mut().for_each(|v| *v *= 0.5);
+            if is_of_kind(kind, count, &llr) {
+                found.push(llr);
+            }
+        }
+        found
     }
 
     fn ft8_word(random: &mut Random) -> Vec<u8> {
@@ -116,20 +136,22 @@ mod compared {
             &mut || _ = black_box(desklink::ldpc_count_errors(black_box(&hard))),
             &mut || _ = black_box(orion::ldpc::ldpc_count_errors(black_box(&hard))),
         );
-        for (kind, (what, _)) in NOISE.iter().enumerate() {
-            let frames: Vec<[f32; 174]> = frames(random, kind, 0.5, &mut ft8_word).into_iter().map(|f| f.try_into().unwrap()).collect();
+        for (kind, what) in KINDS.iter().enumerate() {
+            let mut count = |llr: &[f32], limit: u16| orion::ldpc::ldpc_decode_soft(llr.try_into().unwrap(), limit.into(), &mut [0; 174]);
+            let frames: Vec<[f32; 174]> =
+                frames(random, kind, &mut ft8_word, &mut count).into_iter().map(|f| f.try_into().unwrap()).collect();
             for count in [1, 24] {
                 let (mut a, mut b) = ([0; 174], [0; 174]);
                 row(
                     &format!("ldpc_decode_soft, {what}, {count} frames"),
                     &mut || {
                         for f in &frames[..count] {
-                            black_box(desklink::ldpc_decode_soft(black_box(f), 20, &mut a));
+                            black_box(desklink::ldpc_decode_soft(black_box(f), LIMIT, &mut a));
                         }
                     },
                     &mut || {
                         for f in &frames[..count] {
-                            black_box(orion::ldpc::ldpc_decode_soft(black_box(f), 20, &mut b));
+                            black_box(orion::ldpc::ldpc_decode_soft(black_box(f), LIMIT.into(), &mut b));
                         }
                     },
                 );
@@ -137,7 +159,7 @@ mod compared {
         }
     }
 
-    fn staircase(random: &mut Random, code: LdpcCode, theirs: orion::ldpc_codes::LdpcCode, few: f64) {
+    fn staircase(random: &mut Random, code: LdpcCode, theirs: orion::ldpc_codes::LdpcCode) {
         let (port, original) = (Ldpc::new(code), orion::ldpc_codes::Ldpc::new(theirs));
         let message = random.bits(code.k());
         row(
@@ -157,19 +179,21 @@ mod compared {
             ("scaled min-sum", DecodeRule::ScaledMinSum(0.75), orion::ldpc_codes::DecodeRule::ScaledMinSum(0.75)),
         ];
         for (rule, ours, theirs) in rules {
-            for (kind, (what, _)) in NOISE.iter().enumerate() {
-                let frames = frames(random, kind, few, &mut |r: &mut Random| original.encode(&r.bits(code.k())));
+            for (kind, what) in KINDS.iter().enumerate() {
+                let mut word = |r: &mut Random| original.encode(&r.bits(code.k()));
+                let mut count = |llr: &[f32], limit: u16| original.decode_soft_with(llr, limit.into(), theirs).1;
+                let frames = frames(random, kind, &mut word, &mut count);
                 for count in [1, 24] {
                     row(
                         &format!("{code:?} {rule}, {what}, {count} frames"),
                         &mut || {
                             for f in &frames[..count] {
-                                drop(black_box(port.decode_soft_with(black_box(f), 20, ours)));
+                                drop(black_box(port.decode_soft_with(black_box(f), LIMIT, ours)));
                             }
                         },
                         &mut || {
                             for f in &frames[..count] {
-                                drop(black_box(original.decode_soft_with(black_box(f), 20, theirs)));
+                                drop(black_box(original.decode_soft_with(black_box(f), LIMIT.into(), theirs)));
                             }
                         },
                     );
@@ -183,9 +207,9 @@ mod compared {
         println!("| Call | port, µs | Rust, µs | ratio |\n|---|---|---|---|");
         checksum(random);
         ft8(random);
-        staircase(random, LdpcCode::N512R12, orion::ldpc_codes::LdpcCode::N512R12, 0.7);
-        staircase(random, LdpcCode::N576R23, orion::ldpc_codes::LdpcCode::N576R23, 0.55);
-        staircase(random, LdpcCode::N512R34, orion::ldpc_codes::LdpcCode::N512R34, 0.5);
+        staircase(random, LdpcCode::N512R12, orion::ldpc_codes::LdpcCode::N512R12);
+        staircase(random, LdpcCode::N576R23, orion::ldpc_codes::LdpcCode::N576R23);
+        staircase(random, LdpcCode::N512R34, orion::ldpc_codes::LdpcCode::N512R34);
         row(
             "Ldpc::new, N512R12",
             &mut || _ = black_box(Ldpc::new(black_box(LdpcCode::N512R12))),
