@@ -61,10 +61,12 @@ module _ (n values end : ℕ) (ns : List ℕ) (i : ℕ) (h : i + 1 < length ns) 
 
   pub pair-good : verdict (pairTests n values end (getD ns i 0) (getD ns (i + 1) 0)) ≡ nothing
       → judged (pairRefusals n values (getD ns i 0 + getD ns (i + 1) 0) (pairsOf (drop (i + 2) ns))) tt ≡ z
-  pair-good g = sym (judged-past (pairTests n values end (getD ns i 0) (getD ns (i + 1) 0)) _ tt g) ∙ opened
+  pair-good g =
+      sym (judged-past (pairTests n values end (getD ns i 0) (getD ns (i + 1) 0)) (pairRefusals n values (getD ns i 0 + getD ns (i + 1) 0) (pairsOf (drop (i + 2) ns))) tt g) ∙ opened
 
   pub pair-bad : (k : ℕ) → verdict (pairTests n values end (getD ns i 0) (getD ns (i + 1) 0)) ≡ refused k → refused k ≡ z
-  pair-bad k g = sym (judged-front (pairTests n values end (getD ns i 0) (getD ns (i + 1) 0)) _ tt k g) ∙ opened
+  pair-bad k g =
+      sym (judged-front (pairTests n values end (getD ns i 0) (getD ns (i + 1) 0)) (pairRefusals n values (getD ns i 0 + getD ns (i + 1) 0) (pairsOf (drop (i + 2) ns))) tt k g) ∙ opened
 
 pub pairs-good : (n values end : ℕ) (ns : List ℕ) (i : ℕ) (z : Outcome Unit) → length ns ≤ i + 1 → verdict (pairRefusals n values end (pairsOf (drop i ns))) ≡ z → nothing ≡ z
 unfolding pairRefusals

@@ -38,13 +38,17 @@ pairRefusals n values end (p ∷ ps) =
     ∷ (12 when ltb values (p .offset + p .size))
     ∷ pairRefusals n values (p .offset + p .size) ps
 
+-- "3: code 3 with rule 1 or 2"
+unfoldable pub ruleNotOfCode : ℕ → ℕ → Bool
+ruleNotOfCode code rule = eqb code 3 && (eqb rule 1 || eqb rule 2)
+
 -- 1 code not 0-3, 2 rule above 3, 3 code 3 with rule 1 or 2, 7 over 24 pairs, 8 an output not exactly its length ("pairs times K bytes
 -- and one count place a pair"), 9 work area too short
 abbrev pub headRefusals : ℕ → ℕ → ℕ → ℕ → ℕ → ℕ → List Condition
 headRefusals code rule pairs bits counts work =
     (1 when ltb 3 code)
     ∷ (2 when ltb 3 rule)
-    ∷ (3 when (eqb code 3 && (eqb rule 1 || eqb rule 2)))
+    ∷ (3 when ruleNotOfCode code rule)
     ∷ (7 when ltb 24 pairs)
     ∷ (8 when not (eqb bits (pairs * sizeK code)))
     ∷ (8 when not (eqb counts pairs))

@@ -1,7 +1,7 @@
 // The batch: many frames of one code, decoded one after another in one work area.
 ghost use mathlib.Core.Path.{_≡_};
 ghost use mathlib.Core.List.{List, [], _∷_, map};
-ghost use mathlib.Core.Bool.{not, _&&_, _||_};
+ghost use mathlib.Core.Bool.{not};
 ghost use Prim.Native.Nat.{_+_, _*_, _≤_, _<_};
 ghost use lib.Dec.{eqb, ltb};
 ghost use lib.ListN.{length};
@@ -10,7 +10,7 @@ ghost use Rattle.tanner.specs.Flat.{joined};
 ghost use Rattle.belief.specs.Graph.{cleared};
 ghost use Rattle.batch.specs.Codes.{sizeN, sizeK};
 ghost use Rattle.batch.specs.Pairs.{pairsOf, framesOf};
-ghost use Rattle.batch.specs.Calls.{batchedOf, faultOf, pairRefusals, headRefusals, batchRefusals, frameCount, frameBits, batchCounts, batchBits, AllWithin};
+ghost use Rattle.batch.specs.Calls.{batchedOf, faultOf, ruleNotOfCode, pairRefusals, headRefusals, batchRefusals, frameCount, frameBits, batchCounts, batchBits, AllWithin};
 use refusal::Refusal;
 
 // The answer of a batch.
@@ -49,9 +49,15 @@ pub fn message_bits(code: u32) -> usize
 
 // Whether that rule is none of code 3's.
 fn rule_not_of_code(code: u32, rule: u32) -> bool
-    ensures { λ r. ⌜ r ≡ (eqb code 3 && (eqb rule 1 || eqb rule 2)) ⌝ }
+    ensures { λ r. ⌜ r ≡ ruleNotOfCode code rule ⌝ }
 {
-    code == 3 && (rule == 1 || rule == 2)
+    if code != 3 {
+        return false;
+    }
+    if rule == 1 {
+        return true;
+    }
+    rule == 2
 }
 
 // The numbers and the lengths, in the order of document 01's table.
@@ -171,7 +177,7 @@ fn decode_frames(
     let mut j = 0;
     let mut at = 0;
     while j < counts.len() {
-        let from = pairs[2 * j] as usize;
+        let from = pairs[j * 2] as usize;
         let to = from + n;
         let next = at + k;
         counts[j] = decode_frame(

@@ -7,15 +7,16 @@ use native.Mathlib.Nat.{add-zero, add-suc}
 use native.Mathlib.Numerals.{add-one}
 use native.Mathlib.Omega.{arith}
 use borrow.Author.Tests.{eqb-true}
+use lib.Bits.{bitAnd}
 use lib.Dec.{eqb}
 use lib.ListN.{length, getD, set, take, drop, length-set, length-take, length-drop, length-reverse}
 use lib.Seq.{set-at, set-set, drop-cons, take-suc, append-snoc, getD-take, getD-drop, length-take-le}
 use Rattle.refusal.specs.Outcome.{Outcome, judged, kept}
 use Rattle.construction.specs.Columns.{made, nextColumn, finished}
 use Rattle.construction.specs.Codes.{Code}
-use Rattle.tanner.specs.Checks.{Checks, count, countMasked, lowBits}
+use Rattle.tanner.specs.Checks.{Checks, count, countMasked, lowBits, xorFrom}
 use Rattle.tanner.specs.Flat.{joined, offsets, cut, rowsFrom, rowsOf, Below, Within, FlatChecks}
-use Rattle.tanner.proofs.Count.{low-count, count-bound, count-front}
+use Rattle.tanner.proofs.Count.{low-count, count-front}
 use Rattle.tanner.proofs.Flat.{rows-laid, flat-checks, all-below}
 use Rattle.tanner.proofs.Steps.{rows-more, rows-done}
 use Rattle.ldpc_codes.specs.Staircase.{checksOf, encoded}
@@ -77,11 +78,20 @@ unfolding cut
 cut-length a [] f = refl
 cut-length a (b ∷ s) f = ap suc (cut-length b s f)
 
-pub one-counted : (s f w : List ℕ) → length s ≤ 2 → countMasked 1 (rowsOf s f) w ≤ 1
+nonzero-bit : (b : Bool) → cond b 0 1 ≤ 1
+nonzero-bit true = omega arith
+nonzero-bit false = omega arith
+
+masked-bound : (mask : ℕ) (cs : Checks) (w : List ℕ) → countMasked mask cs w ≤ length cs
+unfolding countMasked
+masked-bound mask [] w = omega arith
+masked-bound mask (c ∷ cs) w = omega (arith, nonzero-bit (eqb (bitAnd (xorFrom 0 c w) mask) 0), masked-bound mask cs w)
+
+-- the count of one check alone is a bit, whatever the mask
+pub one-counted : (mask : ℕ) (s f w : List ℕ) {x : ℕ} → x ≡ countMasked mask (rowsOf s f) w → length s ≤ 2 → x ≤ 1
 unfolding rowsFrom
-one-counted s f w h =
-    rw (low-count (rowsOf s f) w)
-    (omega (arith, count-bound (rowsOf s f) (lowBits w), cut-length (getD s 0 0) (drop 1 s) f, length-drop 1 s))
+one-counted mask s f w e h =
+    omega (arith, e, masked-bound mask (rowsOf s f) w, cut-length (getD s 0 0) (drop 1 s) f, length-drop 1 s)
 
 pub stored-once : (w : List ℕ) (at x : ℕ) {y : ℕ} → x ≡ y → set (set w at 0) at x ≡ set w at y
 stored-once w at x e = set-set w at 0 x ∙ rw e
@@ -97,7 +107,7 @@ unfolding made nextColumn finished
 made-length zero m seed = refl
 made-length (suc k) m seed = ap suc (made-length k m seed)
 
-columns-length : (c : Code) → length (columns c) ≡ c .k
+pub columns-length : (c : Code) → length (columns c) ≡ c .k
 unfolding columns
 columns-length c = length-reverse (made (c .k) (c .m) (c .seed) .columns) ∙ made-length (c .k) (c .m) (c .seed)
 

@@ -1,4 +1,4 @@
-// The tables of the three codes: message rows, checks with starts, and each bit's edges with starts. `make_tables` prints them.
+// The tables of the three codes: message rows, checks with starts, and each bit's edges with starts. What a function reads of them is proved to be what the construction gives.
 
 pub const N512R12_ROWS: [u16; 768] = [
     41,

@@ -17,7 +17,7 @@ count-masked-requires : tie.Need-count-masked-requires
 count-masked-requires c κs = rw length-set (c .before .before .before .before .pre .0)
 
 cast-codeword : tie.Need-cast-codeword
-cast-codeword c = omega (arith, c .count-masked .ensures, one-counted (c .before .before .before .before .before .args .starts .now) (c .before .before .before .before .before .args .flat .now) (set (c .before .before .before .before .before .args .codeword .now) (c .before .before .before .before .before .args .at) 0) (c .before .before .before .before .before .pre .1 .0))
+cast-codeword c = let bit = one-counted _ _ _ _ (c .count-masked .ensures) (c .before .before .before .before .before .pre .1 .0) in omega arith
 
 slice-write-codeword-2 : tie.Need-slice-write-codeword-2
 slice-write-codeword-2 c = simp length-set (omega arith)
