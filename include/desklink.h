@@ -8,7 +8,8 @@
  * the whole call. A slice that is written to overlaps no other slice of the call. That is all that a caller owes: every
  * value of a number, and every length, is tested by the call.
  *
- * Codes. 0 is N512R12 (N 512, K 256), 1 is N576R23 (N 576, K 384), 2 is N512R34 (N 512, K 384).
+ * Codes. 0 is N512R12 (N 512, K 256), 1 is N576R23 (N 576, K 384), 2 is N512R34 (N 512, K 384); in a batch 3 is
+ * (174,91) (N 174, K 91), with rules 0 and 3 only.
  * Rules. 0 is sum-product, 1 min-sum, 2 min-sum scaled by `scale`, 3 the house default, which is rule 0.
  *
  * Work area. Each decoder borrows at least DESKLINK_WORK floats, of any contents. After an accepted call the first
@@ -75,6 +76,13 @@ int32_t desklink_decode_soft(uint32_t code, uint16_t limit, const float *llr, si
 /* The same by the rule with that number; scale is read by rule 2 alone, and may have any bits. */
 int32_t desklink_decode_soft_with(uint32_t code, uint32_t rule, float scale, uint16_t limit, const float *llr,
                                   size_t llr_len, uint8_t *bits, size_t bits_len, float *work, size_t work_len);
+
+/* Decodes many frames of one code. pairs: for each frame its offset in values and its length, which is N, in turn, sorted
+ * by offset; pairs_len counts those numbers, two a pair, at most 48 (an odd one at the end is not read). bits: K bytes a
+ * pair, written; counts: one place a pair, written. */
+int32_t desklink_decode_batch(uint32_t code, uint32_t rule, uint16_t limit, float scale, const float *values,
+                              size_t values_len, const uint32_t *pairs, size_t pairs_len, uint8_t *bits,
+                              size_t bits_len, uint16_t *counts, size_t counts_len, float *work, size_t work_len);
 
 #ifdef __cplusplus
 }

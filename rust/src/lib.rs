@@ -14,10 +14,12 @@
 //! ```
 use std::cell::RefCell;
 
+mod batch;
 mod refusal;
 pub mod slices;
 mod staircase;
 
+pub use batch::{Batch, BatchCode};
 pub use refusal::Refusal;
 pub use staircase::{DecodeRule, Ldpc, LdpcCode};
 

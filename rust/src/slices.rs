@@ -41,6 +41,22 @@ mod ffi {
             work: *mut f32,
             work_len: usize,
         ) -> i32;
+        pub fn desklink_decode_batch(
+            code: u32,
+            rule: u32,
+            limit: u16,
+            scale: f32,
+            values: *const f32,
+            values_len: usize,
+            pairs: *const u32,
+            pairs_len: usize,
+            bits: *mut u8,
+            bits_len: usize,
+            counts: *mut u16,
+            counts_len: usize,
+            work: *mut f32,
+            work_len: usize,
+        ) -> i32;
     }
 }
 
@@ -148,4 +164,40 @@ pub fn decode_soft_with(
             work.len(),
         )
     })
+}
+
+/// Many frames of one code: each pair is an offset into `values` and a length, which is N. `bits` has K places a pair, and
+/// `counts` one.
+#[allow(clippy::too_many_arguments)]
+pub fn decode_batch(
+    code: u32,
+    rule: u32,
+    limit: u16,
+    scale: f32,
+    values: &[f32],
+    pairs: &[[u32; 2]],
+    bits: &mut [u8],
+    counts: &mut [u16],
+    work: &mut [f32],
+) -> Result<(), Refusal> {
+    let pairs = pairs.as_flattened();
+    answer(unsafe {
+        ffi::desklink_decode_batch(
+            code,
+            rule,
+            limit,
+            scale,
+            values.as_ptr(),
+            values.len(),
+            pairs.as_ptr(),
+            pairs.len(),
+            bits.as_mut_ptr(),
+            bits.len(),
+            counts.as_mut_ptr(),
+            counts.len(),
+            work.as_mut_ptr(),
+            work.len(),
+        )
+    })
+    .map(drop)
 }

@@ -160,6 +160,85 @@ fn staircase_decode() {
     }
 }
 
+/// The number of the first faulty pair, and nothing where none is: 10, 11 and 12 in turn at each.
+fn pair_fault(n: usize, values: usize, pairs: &[[u32; 2]]) -> Option<Refusal> {
+    let mut end = 0;
+    for &[offset, length] in pairs {
+        let (offset, length) = (offset as usize, length as usize);
+        let fault = first(&[
+            (length != n, Refusal::PairLength),
+            (offset < end, Refusal::PairOrder),
+            (offset + length > values, Refusal::PairPastEnd),
+        ]);
+        if fault.is_some() {
+            return fault;
+        }
+        end = offset + length;
+    }
+    None
+}
+
+/// Pairs that follow each other, of which a few may then be spoilt.
+fn some_pairs(random: &mut Random, n: usize) -> Vec<[u32; 2]> {
+    let count = random.pick(&[0, 1, 2, 3, 23, 24, 25, 26]);
+    let mut end = 0;
+    let mut pairs: Vec<[u32; 2]> = Vec::new();
+    for _ in 0..count {
+        end += random.below(3);
+        pairs.push([end as u32, n as u32]);
+        end += n;
+    }
+    for _ in 0..random.below(3) * count.min(1) {
+        let at = random.below(count);
+        match random.below(6) {
+            0 => pairs[at][1] = pairs[at][1].wrapping_sub(1),
+            1 => pairs[at][1] += 1,
+            2 => pairs[at][0] = pairs[at][0].wrapping_sub(1),
+            3 => pairs[at][0] = random.pick(&[0, u32::MAX, u32::MAX - n as u32, 1 << 31]),
+            4 => pairs[at] = [0, 0],
+            _ => pairs[at] = [u32::MAX, u32::MAX],
+        }
+    }
+    pairs
+}
+
+#[test]
+fn batch() {
+    let random = &mut Random(6);
+    for _ in 0..3_000 {
+        let code = random.pick(&[0, 1, 2, 3, 3, 3, 4, 256, u32::MAX]);
+        let rule = random.pick(&[0, 0, 1, 2, 3, 3, 4, u32::MAX]);
+        let (n, k) = [(512, 256), (576, 384), (512, 384), (174, 91)][code.min(3) as usize];
+        let pairs = some_pairs(random, n);
+        let spare = random.pick(&[0, 0, 1, 5]);
+        let room = pairs.len() * (n + 2) + spare;
+        let values: Vec<f32> = vec![1.0; room - random.pick(&[0, 0, 0, 1, n]).min(room)];
+        let bit_places = (pairs.len() * k + random.pick(&[0, 0, 0, 1])).saturating_sub(random.pick(&[0, 0, 0, 1]));
+        let count_places = (pairs.len() + random.pick(&[0, 0, 0, 1])).saturating_sub(random.pick(&[0, 0, 0, 1]));
+        let area = random.pick(&[3070, 3070, 3071, 3069, 0]);
+        let (bits_before, held) = (random.bytes(bit_places), (0..area).map(|_| random.pattern()).collect::<Vec<f32>>());
+        let counts_before: Vec<u16> = (0..count_places).map(|_| random.next() as u16).collect();
+        let (mut bits, mut counts, mut work) = (bits_before.clone(), counts_before.clone(), held.clone());
+        let expected = first(&[
+            (code > 3, Refusal::UnknownCode),
+            (rule > 3, Refusal::UnknownRule),
+            (code == 3 && (rule == 1 || rule == 2), Refusal::RuleNotOfCode),
+            (pairs.len() > 24, Refusal::TooManyPairs),
+            (bit_places != pairs.len() * k, Refusal::OutputLength),
+            (count_places != pairs.len(), Refusal::OutputLength),
+            (area < 3070, Refusal::WorkTooShort),
+        ])
+        .or_else(|| pair_fault(n, values.len(), &pairs));
+        let answer = slices::decode_batch(code, rule, 2, 0.5, &values, &pairs, &mut bits, &mut counts, &mut work);
+        if expect(answer, expected) {
+            assert!(bits == bits_before && counts == counts_before && same_bits(&work, &held));
+        } else {
+            assert!(bits.iter().all(|&b| b == 0) && counts.iter().all(|&c| c == 0));
+            assert!(work[..3070].iter().all(|v| v.to_bits() == 0) && same_bits(&work[3070..], &held[3070..]));
+        }
+    }
+}
+
 #[test]
 fn every_refusal_has_its_number_and_a_sentence() {
     for number in 1..=13 {

@@ -33,6 +33,20 @@ fn decoders() {
 }
 
 #[test]
+fn batch() {
+    for code in 0..4 {
+        let random = &mut Random(u64::from(code));
+        let (n, k) = [(512, 256), (576, 384), (512, 384), (174, 91)][code as usize];
+        let values: Vec<f32> = (0..24 * n).map(|_| random.normal() as f32).collect();
+        let pairs: Vec<[u32; 2]> = (0..24).map(|j| [(j * n) as u32, n as u32]).collect();
+        let (mut bits, mut counts, mut work) = (vec![0; 24 * k], vec![0; 24], vec![0.0; slices::WORK]);
+        on_small_stack(move || {
+            slices::decode_batch(code, 0, 5, 1.0, &values, &pairs, &mut bits, &mut counts, &mut work).unwrap();
+        });
+    }
+}
+
+#[test]
 fn encoders_and_counters() {
     on_small_stack(|| {
         let mut codeword = vec![0; 512];

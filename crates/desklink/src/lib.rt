@@ -1,4 +1,5 @@
 // The C interface: each call on numbers and slices, its answer one signed number.
+use batch::Batched;
 use crc::Added;
 use crc::Checksum;
 use decoders::Decoding;
@@ -25,6 +26,7 @@ ghost use Rattle.belief.specs.Graph.{cleared};
 ghost use Rattle.decoders.specs.Decodes.{ruleOf, staircaseDecode, ft8Decode};
 ghost use Rattle.decoders.specs.Calls.{decodingOf, softWithRefusals, softRefusals, ft8Refusals};
 ghost use Rattle.softmath.specs.declared.DecodeRule.the-variants as rules;
+ghost use Rattle.batch.specs.Calls.{batchedOf, batchRefusals, batchCounts, batchBits};
 ghost use Rattle.desklink.specs.Coded.{coded, codedUnit};
 
 // ---- answers as numbers
@@ -104,6 +106,15 @@ fn decoding_code(answer: Decoding) -> i32
     match answer {
         Decoding::Count(v) => value_code(v),
         Decoding::Refused(r) => refusal_code(r),
+    }
+}
+
+fn batched_code(answer: Batched) -> i32
+    ensures { λ n. ⌜ n ≡ codedUnit (batchedOf answer) ⌝ }
+{
+    match answer {
+        Batched::Done => 0,
+        Batched::Refused(r) => refusal_code(r),
     }
 }
 
@@ -215,4 +226,26 @@ pub extern "C" fn desklink_decode_soft_with(
     ensures { λ _. ⌜ now (work .exit) ≡ kept (softWithRefusals code rule (now (llr .entry)) (now (bits .entry)) (now (work .entry))) (now (work .entry)) (cleared (now (work .entry))) ⌝ }
 {
     decoding_code(decoders::decode_soft_with(code, rule, scale, limit, llr, bits, work))
+}
+
+// ---- the batch
+
+#[no_mangle]
+pub extern "C" fn desklink_decode_batch(
+    code: u32,
+    rule: u32,
+    limit: u16,
+    scale: f32,
+    values: &[f32],
+    pairs: &[u32],
+    bits: &mut [u8],
+    counts: &mut [u16],
+    work: &mut [f32],
+) -> i32
+    ensures { λ n. ⌜ n ≡ codedUnit (judged (batchRefusals code rule (now (values .entry)) (now (pairs .entry)) (now (bits .entry)) (now (counts .entry)) (now (work .entry))) tt) ⌝ }
+    ensures { λ _. ⌜ now (bits .exit) ≡ kept (batchRefusals code rule (now (values .entry)) (now (pairs .entry)) (now (bits .entry)) (now (counts .entry)) (now (work .entry))) (now (bits .entry)) (batchBits code rule scale limit (now (values .entry)) (now (pairs .entry))) ⌝ }
+    ensures { λ _. ⌜ now (counts .exit) ≡ kept (batchRefusals code rule (now (values .entry)) (now (pairs .entry)) (now (bits .entry)) (now (counts .entry)) (now (work .entry))) (now (counts .entry)) (batchCounts code rule scale limit (now (values .entry)) (now (pairs .entry))) ⌝ }
+    ensures { λ _. ⌜ now (work .exit) ≡ kept (batchRefusals code rule (now (values .entry)) (now (pairs .entry)) (now (bits .entry)) (now (counts .entry)) (now (work .entry))) (now (work .entry)) (cleared (now (work .entry))) ⌝ }
+{
+    batched_code(batch::decode_batch(code, rule, limit, scale, values, pairs, bits, counts, work))
 }
