@@ -7,8 +7,10 @@ use lib.ListN.{length, take, drop, getD, set, length-drop}
 use lib.Seq.{getD-drop}
 use lib.Ieee.{Float, nan}
 use Rattle.softmath.specs.Single.{_⊕_, _⊖_, foldFrom, sumFrom}
-use Rattle.softmath.specs.VariableNode.{answersAt, EdgesWithin, lessOwn, othersSummed}
-use Rattle.softmath.proofs.InPlace.{rest-whole, read-more}
+use Rattle.softmath.specs.VariableNode.{decisionSum, answersAt, EdgesWithin, lessOwn, othersSummed, bitTurned}
+use Rattle.softmath.specs.Functions.{decide}
+use Rattle.softmath.specs.declared.SumKind.{SumKind}
+use Rattle.softmath.proofs.InPlace.{rest-whole, front-whole, read-more}
 
 pub sum-more : (w : List Float) (es : List ℕ) (r : Float) (k : ℕ) (s : Float) → k < length es → sumFrom s (answersAt w (drop k es)) ≡ r
     → sumFrom (s ⊕ getD w (getD es k 0) nan) (answersAt w (drop (k + 1) es)) ≡ r
@@ -34,3 +36,14 @@ unfolding EdgesWithin
 within-rest es n k g j h =
     let l : j < length (drop k es) = rw (rest-whole es k) at h in
     rw (rest-whole es k, getD-drop) (g (k + j) (omega (arith, l, length-drop k es)))
+
+-- ---- edges cut by a literal that is their number
+
+pub front-within : (es : List ℕ) (n k : ℕ) → length es ≡ k → EdgesWithin es n → EdgesWithin (take k es) n
+front-within es n k e within = rw (front-whole k es e) within
+
+pub front-decided : (llr : Float) (w : List Float) (es : List ℕ) (k r : ℕ) → length es ≡ k → r ≡ decide (decisionSum llr (answersAt w (take k es))) → r ≡ decide (decisionSum llr (answersAt w es))
+front-decided llr w es k r e given = rw (front-whole k es e) at given
+
+pub front-turned : (kind : SumKind) (llr : Float) (w r : List Float) (es : List ℕ) (k : ℕ) → length es ≡ k → r ≡ bitTurned kind llr (take k es) w → r ≡ bitTurned kind llr es w
+front-turned kind llr w r es k e given = rw (front-whole k es e) at given

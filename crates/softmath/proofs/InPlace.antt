@@ -1,5 +1,5 @@
 -- Laws of loops over a list, whatever is computed: by splitting the list at the loop's index. Assumes nothing.
-use mathlib.Core.Path.{_≡_, refl, sym, _∙_}
+use mathlib.Core.Path.{_≡_, refl, sym, ap, _∙_}
 use mathlib.Core.List.{List, [], _∷_, _++_, map, append-assoc, append-nil}
 use Prim.Native.Nat.{ℕ, suc, _+_, _-_, _≤_, _<_}
 use native.Mathlib.Omega.{arith}
@@ -10,6 +10,19 @@ use lib.Seq.{take-suc-set, drop-set-lt, drop-cons, take-all}
 -- the part of a list from n to its end
 pub rest-whole : {A : Type 0} (l : List A) (n : ℕ) → take (length l - n) (drop n l) ≡ drop n l
 rest-whole l n = take-all (length l - n) (drop n l) (simp length-drop (omega arith))
+
+-- a part that is the whole: it has as many elements as the literal that cuts it says
+pub front-whole : {A : Type 0} (n : ℕ) (l : List A) → length l ≡ n → take n l ≡ l
+front-whole n l e = take-all n l (omega (arith, e))
+
+pub front-length : {A : Type 0} (n : ℕ) (l : List A) → length l ≡ n → n ≡ length (take n l)
+front-length n l e = sym (ap length (front-whole n l e) ∙ e)
+
+-- what was made of the part, with the rest, which is nothing, behind it
+pub front-done : {A : Type 0} (f : List A → List A) (n : ℕ) (l r : List A) → length l ≡ n → r ≡ f (take n l) → r ++ drop n l ≡ f l
+front-done f n l r e made =
+    let short : length l ≤ n = omega (arith, e) in
+    rw (drop-of-length-le l short, append-nil) (made ∙ ap f (front-whole n l e))
 
 -- A loop that reads each element: G says what is left to do from the state s with the elements that are left.
 module _ {A S R : Type 0} (G : S → List A → R) (next : S → A → List A → S) (step : (s : S) (x : A) (xs : List A) → G s (x ∷ xs) ≡ G (next s x xs) xs) (d : A) where

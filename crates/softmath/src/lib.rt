@@ -1,6 +1,9 @@
 // The f32 arithmetic of a decoding round: the check step and the variable node, each operation rounded once in a fixed order.
 ghost use mathlib.Core.Path.{_≡_};
+ghost use mathlib.Core.Bool.{true, cond};
 ghost use mathlib.Core.List.{map};
+ghost use lib.Dec.{eqb};
+ghost use lib.Ieee.{neg, lt, eq};
 ghost use lib.ListN.{length};
 ghost use Rattle.softmath.specs.Single.{_⊘_, _⊗_, foldFrom, product, sumFrom};
 ghost use Rattle.softmath.specs.Functions.{tanh, atanh, clampUnit, magnitudeOf, decide};
@@ -65,15 +68,21 @@ pub fn clamp_unit(x: f32) -> f32
     }
 }
 
-// The value without its sign: 0.0 for both zeros, a NaN for a NaN.
+// The greater of a value and its negative: the negative where neither is, as at a zero.
+fn greater_sign(x: f32) -> f32
+    ensures { λ r. ⌜ r ≡ cond (lt (neg x) x) x (neg x) ⌝ }
+{
+    let n = -x;
+    if n < x { x } else { n }
+}
+
+// The value without its sign: 0.0 for both zeros, a NaN for a NaN. It does not ask whether x is below zero, as the sign's
+// test does: a test of floats that chooses twice would become a jump.
 pub fn magnitude(x: f32) -> f32
     ensures { λ r. ⌜ r ≡ magnitudeOf x ⌝ }
 {
-    if x < 0.0 {
-        -x
-    } else {
-        if x == 0.0 { 0.0 } else { x }
-    }
+    let w = greater_sign(x);
+    if w == 0.0 { 0.0 } else { w }
 }
 
 // The bit that a sum decides: 1 at or below zero, 0 for a NaN.
@@ -139,6 +148,33 @@ fn products(part: &mut [f32])
     }
 }
 
+// The same with the degrees of the codes as numbers that the compiler sees, so that it unrolls the loops for each.
+fn products_by_degree(part: &mut [f32])
+    ensures { λ _. ⌜ now (part .exit) ≡ atEach product (now (part .entry)) ⌝ }
+{
+    if part.len() == 5 {
+        products(&mut part[..5]);
+        return;
+    }
+    if part.len() == 6 {
+        products(&mut part[..6]);
+        return;
+    }
+    if part.len() == 7 {
+        products(&mut part[..7]);
+        return;
+    }
+    if part.len() == 8 {
+        products(&mut part[..8]);
+        return;
+    }
+    if part.len() == 11 {
+        products(&mut part[..11]);
+        return;
+    }
+    products(part);
+}
+
 // The sign with v's: a NaN and -0.0 are not negative.
 fn turn_sign(v: f32, sign: f32) -> f32
     ensures { λ r. ⌜ r ≡ turned v sign ⌝ }
@@ -146,31 +182,37 @@ fn turn_sign(v: f32, sign: f32) -> f32
     if v < 0.0 { -sign } else { sign }
 }
 
-// One message more: a NaN is below nothing.
+// The lesser of two: b where neither is less, which a NaN never is.
+fn lesser(a: f32, b: f32) -> f32
+    ensures { λ r. ⌜ r ≡ cond (lt a b) a b ⌝ }
+{
+    if a < b { a } else { b }
+}
+
+// The least so far where a is less, and otherwise x: one of two values at hand, so that no jump depends on the messages.
+fn pushed(a: f32, least: f32, x: f32) -> f32
+    ensures { λ r. ⌜ r ≡ cond (lt a least) least x ⌝ }
+{
+    if a < least { least } else { x }
+}
+
+// The place of the least: i where the least has changed.
+fn least_place(least: f32, before: f32, i: usize, place: usize) -> usize
+    ensures { λ r. ⌜ r ≡ cond (eq least before) place i ⌝ }
+{
+    if least == before { place } else { i }
+}
+
+// One message more: a NaN is below nothing, and never the least.
 fn note(m: Minima, i: usize, v: f32) -> Minima
+    requires { ⌜ eq (m .least) (m .least) ≡ true ⌝ }
     ensures { λ r. ⌜ r ≡ seen m i v ⌝ }
 {
     let a = magnitude(v);
-    let least = m.least;
-    let second = m.second;
-    let place = m.place;
+    let least = lesser(a, m.least);
+    let second = pushed(a, m.least, lesser(a, m.second));
+    let place = least_place(least, m.least, i, m.place);
     let sign = turn_sign(v, m.sign);
-    if a < least {
-        return Minima {
-            least: a,
-            second: least,
-            place: i,
-            sign: sign,
-        };
-    }
-    if a < second {
-        return Minima {
-            least: least,
-            second: a,
-            place: place,
-            sign: sign,
-        };
-    }
     Minima {
         least: least,
         second: second,
@@ -198,16 +240,21 @@ fn least_two(part: &[f32]) -> Minima
     m
 }
 
+// The least magnitude of the others: the second at the least's own place.
+fn other_least(m: Minima, i: usize) -> f32
+    ensures { λ r. ⌜ r ≡ cond (eqb i (m .place)) (m .second) (m .least) ⌝ }
+{
+    let least = m.least;
+    let second = m.second;
+    if i == m.place { second } else { least }
+}
+
 // (scale times sign) times magnitude.
 fn min_answer(scale: f32, m: Minima, i: usize, v: f32) -> f32
     ensures { λ r. ⌜ r ≡ minAnswer scale m i v ⌝ }
 {
     let sign = turn_sign(v, m.sign);
-    if i == m.place {
-        scale * sign * m.second
-    } else {
-        scale * sign * m.least
-    }
+    scale * sign * other_least(m, i)
 }
 
 // Min-sum in place: the answers to a check's messages.
@@ -228,10 +275,10 @@ pub fn at_check(rule: DecodeRule, part: &mut [f32])
 {
     match rule {
         DecodeRule::SumProduct => {
-            products(part);
+            products_by_degree(part);
         }
         DecodeRule::Ft8 => {
-            products(part);
+            products_by_degree(part);
         }
         DecodeRule::MinSum => {
             min_sum(1.0, part);
@@ -327,7 +374,7 @@ fn sum_others(llr: f32, work: &mut [f32], edges: &[u16])
 }
 
 // A bit's decision, from its answers in the work area, and its new messages in their place.
-pub fn bit_step(kind: SumKind, llr: f32, work: &mut [f32], edges: &[u16]) -> u8
+fn turn_bit(kind: SumKind, llr: f32, work: &mut [f32], edges: &[u16]) -> u8
     requires { ⌜ EdgesWithin (now edges) (length (now work)) ⌝ }
     ensures { λ r. ⌜ r ≡ decide (decisionSum llr (answersAt (now (work .entry)) (now (edges .entry)))) ⌝ }
     ensures { λ _. ⌜ now (work .exit) ≡ bitTurned kind llr (now (edges .entry)) (now (work .entry)) ⌝ }
@@ -343,4 +390,19 @@ pub fn bit_step(kind: SumKind, llr: f32, work: &mut [f32], edges: &[u16]) -> u8
         }
     }
     bit
+}
+
+// The same with the degrees of the codes' bits as numbers that the compiler sees.
+pub fn bit_step(kind: SumKind, llr: f32, work: &mut [f32], edges: &[u16]) -> u8
+    requires { ⌜ EdgesWithin (now edges) (length (now work)) ⌝ }
+    ensures { λ r. ⌜ r ≡ decide (decisionSum llr (answersAt (now (work .entry)) (now (edges .entry)))) ⌝ }
+    ensures { λ _. ⌜ now (work .exit) ≡ bitTurned kind llr (now (edges .entry)) (now (work .entry)) ⌝ }
+{
+    if edges.len() == 3 {
+        return turn_bit(kind, llr, work, &edges[..3]);
+    }
+    if edges.len() == 2 {
+        return turn_bit(kind, llr, work, &edges[..2]);
+    }
+    turn_bit(kind, llr, work, edges)
 }

@@ -6,7 +6,7 @@ use native.Mathlib.Numerals.{add-one}
 use native.Mathlib.Omega.{arith}
 use lib.Bits.{bitAnd, bitXor}
 use lib.ListN.{length, getD, take, drop, drop-of-length-le, length-take, length-drop}
-use lib.Seq.{drop-cons, getD-take, getD-drop}
+use lib.Seq.{drop-cons, getD-take, getD-drop, take-all}
 use borrow.Author.Tests.{eq-eqb, ne-eqb}
 use Rattle.tanner.specs.Checks.{xorFrom, nonzero, countMasked}
 use Rattle.tanner.specs.Flat.{cut, rowsFrom, Below}
@@ -53,3 +53,17 @@ module _ (mask : ℕ) (s f bytes : List ℕ) (c u z x : ℕ) (h : c + 1 < length
 pub count-done : (mask : ℕ) (s f bytes : List ℕ) (c u z : ℕ) → length s ≤ c + 1 → u + countMasked mask (rowsFrom s c f) bytes ≡ z → u ≡ z
 unfolding countMasked
 count-done mask s f bytes c u z h e = omega (arith, rw (rows-done s f c h) at e)
+
+-- ---- a part that is the whole, which has as many entries as the literal that cuts it says
+
+front-whole : (n : ℕ) (l : List ℕ) → length l ≡ n → take n l ≡ l
+front-whole n l e = take-all n l (omega (arith, e))
+
+pub front-length : (n : ℕ) (l : List ℕ) → length l ≡ n → n ≡ length (take n l)
+front-length n l e = sym (ap length (front-whole n l e) ∙ e)
+
+pub front-below : (m n : ℕ) (l : List ℕ) → length l ≡ n → Below m l → Below m (take n l)
+front-below m n l e below = rw (front-whole n l e) below
+
+pub front-xor : (x r n : ℕ) (l bytes : List ℕ) → length l ≡ n → r ≡ xorFrom x (take n l) bytes → r ≡ xorFrom x l bytes
+front-xor x r n l bytes e given = rw (front-whole n l e) at given

@@ -8,14 +8,14 @@ use Rattle.softmath.proofs.at_check.Tie as tie
 enum-told : tie.Need-enum-told
 enum-told c = search needs
 
-products-requires : tie.Need-products-requires
-products-requires c κs = search needs
+products-by-degree-requires : tie.Need-products-by-degree-requires
+products-by-degree-requires c κs = search needs
 
 enum-told-2 : tie.Need-enum-told-2
 enum-told-2 c = search needs
 
-products-requires-2 : tie.Need-products-requires-2
-products-requires-2 c κs = search needs
+products-by-degree-requires-2 : tie.Need-products-by-degree-requires-2
+products-by-degree-requires-2 c κs = search needs
 
 enum-told-3 : tie.Need-enum-told-3
 enum-told-3 c = search needs
@@ -34,14 +34,14 @@ same-length c = search needs
 
 returns : tie.Need-returns
 unfolding middle
-returns c = rw (c .before .before .before .before .enum-told .given .1) (c .before .before .products .ensures)
+returns c = rw (c .before .before .before .before .enum-told .given .1) (c .before .before .products-by-degree .ensures)
 
 same-length-2 : tie.Need-same-length-2
 same-length-2 c = search needs
 
 returns-2 : tie.Need-returns-2
 unfolding middle
-returns-2 c = rw (c .before .before .before .before .enum-told2 .given .1) (c .before .before .products2 .ensures)
+returns-2 c = rw (c .before .before .before .before .enum-told2 .given .1) (c .before .before .products-by-degree2 .ensures)
 
 same-length-3 : tie.Need-same-length-3
 same-length-3 c = search needs
@@ -62,9 +62,9 @@ at-check-spec =
     tie.close
     (tie.spec
     enum-told
-    products-requires
+    products-by-degree-requires
     enum-told-2
-    products-requires-2
+    products-by-degree-requires-2
     enum-told-3
     min-sum-requires
     enum-known-rule

@@ -1,68 +1,56 @@
--- `softmath::bit_step` meets its contract: the decision is made before the messages take the place of the answers, and in each arm the kind is the one matched.
+-- `softmath::bit_step` meets its contract: the edges that are cut are all of them.
 -- Assumes nothing.
-use mathlib.Core.Path.{ap, _∙_}
+use Rattle.softmath.proofs.InPlace.{front-length}
+use Rattle.softmath.proofs.Edges.{front-within, front-decided, front-turned}
 use borrow.Author.Needs.{needs}
-use Rattle.softmath.specs.Functions.{decide}
-use Rattle.softmath.specs.Single.{_⊕_}
-use Rattle.softmath.specs.VariableNode.{lessOwn, bitTurned}
 use Rattle.softmath.proofs.bit_step.Statement.{statement}
 use Rattle.softmath.proofs.bit_step.Tie as tie
 
-sum-at-requires : tie.Need-sum-at-requires
-sum-at-requires c κs = search needs
+slice-aggregate-turn-bit : tie.Need-slice-aggregate-turn-bit
+slice-aggregate-turn-bit c = front-length _ (c .before .before .before .before .before .args .edges .now) (c .before .before .if1 .taken)
 
-decide-requires : tie.Need-decide-requires
-decide-requires c κs = search needs
-
-enum-told : tie.Need-enum-told
-enum-told c = search needs
-
-sum-at-requires-2 : tie.Need-sum-at-requires-2
-sum-at-requires-2 c κs = search needs
-
-less-own-requires : tie.Need-less-own-requires
-less-own-requires c κs = search needs
-
-enum-told-2 : tie.Need-enum-told-2
-enum-told-2 c = search needs
-
-sum-others-requires : tie.Need-sum-others-requires
-sum-others-requires c κs = search needs
+turn-bit-requires : tie.Need-turn-bit-requires
+turn-bit-requires c κs = front-within _ _ _ (c .before .before .if1 .taken) (c .before .before .before .before .before .pre)
 
 same-length : tie.Need-same-length
 same-length c = search needs
 
 returns : tie.Need-returns
-unfolding bitTurned
-returns c =
-    let start = c .before .before .before .before .before .before .before .before .before .before .before .before .before in
-    let total = ap (λ s. lessOwn (start .args .llr ⊕ s) (start .args .edges .now) (start .args .work .now)) (c .before .before .before .before .sum-at2 .ensures) in (
-      c .before .before .before .before .before .before .before .before .decide .ensures ∙ ap decide (c .before .before .before .before .before .before .before .before .before .sum-at .ensures),
-      rw (c .before .before .before .before .before .before .enum-told .given .1) (c .before .before .less-own .ensures ∙ total),
-    )
+returns c = (front-decided _ _ _ _ _ (c .before .before .before .before .before .if1 .taken) (c .before .before .turn-bit .ensures .0), front-turned _ _ _ _ _ _ (c .before .before .before .before .before .if1 .taken) (c .before .before .turn-bit .ensures .1))
+
+slice-aggregate-turn-bit-2 : tie.Need-slice-aggregate-turn-bit-2
+slice-aggregate-turn-bit-2 c = front-length _ (c .before .before .before .before .before .before .args .edges .now) (c .before .before .if2 .taken)
+
+turn-bit-requires-2 : tie.Need-turn-bit-requires-2
+turn-bit-requires-2 c κs = front-within _ _ _ (c .before .before .if2 .taken) (c .before .before .before .before .before .before .pre)
 
 same-length-2 : tie.Need-same-length-2
 same-length-2 c = search needs
 
 returns-2 : tie.Need-returns-2
-unfolding bitTurned
-returns-2 c = (
-  c .before .before .before .before .before .before .decide .ensures ∙ ap decide (c .before .before .before .before .before .before .before .sum-at .ensures),
-  rw (c .before .before .before .before .enum-told2 .given .1) (c .before .before .sum-others .ensures),
-)
+returns-2 c = (front-decided _ _ _ _ _ (c .before .before .before .before .before .if2 .taken) (c .before .before .turn-bit2 .ensures .0), front-turned _ _ _ _ _ _ (c .before .before .before .before .before .if2 .taken) (c .before .before .turn-bit2 .ensures .1))
+
+turn-bit-requires-3 : tie.Need-turn-bit-requires-3
+turn-bit-requires-3 c κs = search needs
+
+same-length-3 : tie.Need-same-length-3
+same-length-3 c = search needs
+
+returns-3 : tie.Need-returns-3
+returns-3 c = search needs
 
 pub bit-step-spec : {M : Type 1} → statement M
 bit-step-spec =
     tie.close
     (tie.spec
-    sum-at-requires
-    decide-requires
-    enum-told
-    sum-at-requires-2
-    less-own-requires
-    enum-told-2
-    sum-others-requires
+    slice-aggregate-turn-bit
+    turn-bit-requires
     same-length
     returns
+    slice-aggregate-turn-bit-2
+    turn-bit-requires-2
     same-length-2
-    returns-2)
+    returns-2
+    turn-bit-requires-3
+    same-length-3
+    returns-3)

@@ -12,7 +12,7 @@ use Rattle.tanner.proofs.count_masked.Statement.{statement}
 use Rattle.tanner.proofs.count_masked.Tie as tie
 use Rattle.tanner.proofs.count_masked.Reads as reads
 use Rattle.tanner.proofs.count_masked.Lts as lts
-use Rattle.tanner.proofs.xor_at.Reads as xor-at-reads
+use Rattle.tanner.proofs.xor_check.Reads as xor-check-reads
 
 abbrev Inv-loop : tie.InvT-loop
 Inv-loop starts flat bytes mask unsatisfied₀ c₀ unsatisfied c =
@@ -55,20 +55,20 @@ shared-slice-read-b c = search needs
 cast-b : tie.Need-cast-b Inv-loop μ-loop
 cast-b c = omega (arith, c .shared-slice-known5 .given (c .before .before .before .loop .c + 1))
 
-mul-xor-at : tie.Need-mul-xor-at Inv-loop μ-loop
-mul-xor-at c = omega (arith, bounds (c .before .before))
+mul-xor-check : tie.Need-mul-xor-check Inv-loop μ-loop
+mul-xor-check c = omega (arith, bounds (c .before .before))
 
-sub-xor-at : tie.Need-sub-xor-at Inv-loop μ-loop
-sub-xor-at c = omega (arith, bounds (c .before .before))
+sub-xor-check : tie.Need-sub-xor-check Inv-loop μ-loop
+sub-xor-check c = omega (arith, bounds (c .before .before))
 
-part-xor-at-start : tie.Need-part-xor-at-start Inv-loop μ-loop
-part-xor-at-start c = omega (arith, bounds (c .before .before))
+part-xor-check-start : tie.Need-part-xor-check-start Inv-loop μ-loop
+part-xor-check-start c = omega (arith, bounds (c .before .before))
 
-part-xor-at-end : tie.Need-part-xor-at-end Inv-loop μ-loop
-part-xor-at-end c = omega (arith, bounds (c .before .before))
+part-xor-check-end : tie.Need-part-xor-check-end Inv-loop μ-loop
+part-xor-check-end c = omega (arith, bounds (c .before .before))
 
-xor-at-requires : tie.Need-xor-at-requires Inv-loop μ-loop
-xor-at-requires c κs =
+xor-check-requires : tie.Need-xor-check-requires Inv-loop μ-loop
+xor-check-requires c κs =
     let loop = c .before .before .before .before in
     let start = loop .before .before .before .before in
     let s = start .args .starts .now in
@@ -87,8 +87,8 @@ loop-again : tie.Need-loop-again Inv-loop μ-loop
 loop-again c =
     let turn = c .before .before .before .before .before in
     ⊎-elim
-    (λ w. (search needs, omega arith, rw (w .1) (count-more _ _ _ _ _ _ _ _ (turn .loop-test .taken) (c .before .xor-at .ensures) (turn .before .loop .inv .2) (w .0 .taken))))
-    (λ w. (search needs, omega arith, rw (w .1) (count-same _ _ _ _ _ _ _ _ (turn .loop-test .taken) (c .before .xor-at .ensures) (turn .before .loop .inv .2) (w .0 .left))))
+    (λ w. (search needs, omega arith, rw (w .1) (count-more _ _ _ _ _ _ _ _ (turn .loop-test .taken) (c .before .xor-check .ensures) (turn .before .loop .inv .2) (w .0 .taken))))
+    (λ w. (search needs, omega arith, rw (w .1) (count-same _ _ _ _ _ _ _ _ (turn .loop-test .taken) (c .before .xor-check .ensures) (turn .before .loop .inv .2) (w .0 .left))))
     (c .if1 .came)
 
 returns : tie.Need-returns Inv-loop μ-loop
@@ -109,11 +109,11 @@ count-masked-spec =
     mul-b
     shared-slice-read-b
     cast-b
-    mul-xor-at
-    sub-xor-at
-    part-xor-at-start
-    part-xor-at-end
-    xor-at-requires
+    mul-xor-check
+    sub-xor-check
+    part-xor-check-start
+    part-xor-check-end
+    xor-check-requires
     add-unsatisfied
     add-c
     loop-less

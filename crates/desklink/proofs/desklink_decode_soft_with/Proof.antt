@@ -1,0 +1,32 @@
+-- `desklink::desklink_decode_soft_with` meets its contract: the answer of the call beneath, as a number. Assumes nothing.
+use mathlib.Core.Path.{_≡_, sym, ap, _∙_}
+use mir.Syntax.{w32}
+use mir.ValLaws.{toZ-ofZ}
+use Rattle.desklink.specs.Coded.{coded}
+use borrow.Author.Needs.{needs}
+use Rattle.desklink.proofs.desklink_decode_soft_with.Statement.{statement}
+use Rattle.desklink.proofs.desklink_decode_soft_with.Tie as tie
+use Rattle.desklink.proofs.desklink_decode_soft_with.Reads as reads
+use Rattle.desklink.proofs.desklink_decode_soft_with.Lts as lts
+use Rattle.decoders.proofs.decode_soft_with.Reads as decode-soft-with-reads
+use Rattle.desklink.proofs.decoding_code.Reads as decoding-code-reads
+
+decode-soft-with-requires : tie.Need-decode-soft-with-requires
+decode-soft-with-requires c κs = search needs
+
+decoding-code-requires : tie.Need-decoding-code-requires
+decoding-code-requires c κs = search needs
+
+same-length : tie.Need-same-length
+same-length c = search needs
+
+same-length-2 : tie.Need-same-length-2
+same-length-2 c = search needs
+
+returns : tie.Need-returns
+returns c = (toZ-ofZ w32 _ (record { sfits = c .decoding-code .ok }) ∙ c .decoding-code .ensures ∙ ap coded (c .before .before .before .before .before .decode-soft-with .ensures .0), c .before .before .before .before .before .decode-soft-with .ensures .1)
+
+pub desklink-decode-soft-with-spec : {M : Type 1} → statement M
+desklink-decode-soft-with-spec =
+    tie.close
+    (tie.spec decode-soft-with-requires decoding-code-requires same-length same-length-2 returns)

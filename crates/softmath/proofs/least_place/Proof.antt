@@ -1,0 +1,13 @@
+-- `softmath::least_place` meets its contract: each arm returns what the definition picks where the test is as the arm found it.
+-- Assumes nothing.
+use Rattle.softmath.proofs.least_place.Statement.{statement}
+use Rattle.softmath.proofs.least_place.Tie as tie
+
+returns : tie.Need-returns
+returns c = simp (c .if1 .taken)
+
+returns-2 : tie.Need-returns-2
+returns-2 c = simp (c .if1 .left)
+
+pub least-place-spec : {M : Type 1} → statement M
+least-place-spec = tie.close (tie.spec returns returns-2)

@@ -1,0 +1,91 @@
+/* desklink.h: the C interface of libdesklink.a (`rt staticlib desklink` writes it to target/staticlib).
+ *
+ * Answers. Every call answers one int32_t: a value or a count from 0 up, or a refusal as minus its number, -1 to -13.
+ * A refused call has written nothing. A call that only writes answers 0.
+ *
+ * Slices. A slice is passed as a pointer and then the number of its elements. The pointer is never null (a slice of
+ * no elements may have any other pointer that is aligned), is aligned for its type, and the memory is the caller's for
+ * the whole call. A slice that is written to overlaps no other slice of the call. That is all that a caller owes: every
+ * value of a number, and every length, is tested by the call.
+ *
+ * Codes. 0 is N512R12 (N 512, K 256), 1 is N576R23 (N 576, K 384), 2 is N512R34 (N 512, K 384); in a batch 3 is
+ * (174,91) (N 174, K 91), with rules 0 and 3 only.
+ * Rules. 0 is sum-product, 1 min-sum, 2 min-sum scaled by `scale`, 3 the house default, which is rule 0.
+ *
+ * Work area. Each decoder borrows at least DESKLINK_WORK floats, of any contents. After an accepted call the first
+ * DESKLINK_WORK of them are +0.0, and the rest are as they were.
+ */
+#ifndef DESKLINK_H
+#define DESKLINK_H
+
+#include <stddef.h>
+#include <stdint.h>
+
+#ifdef __cplusplus
+extern "C" {
+#endif
+
+#define DESKLINK_WORK 3070
+
+enum desklink_refusal {
+    DESKLINK_UNKNOWN_CODE = -1,     /* the code's number names none */
+    DESKLINK_UNKNOWN_RULE = -2,     /* the rule's number is above 3 */
+    DESKLINK_RULE_NOT_OF_CODE = -3, /* (174,91) takes rules 0 and 3 only */
+    DESKLINK_INPUT_LENGTH = -4,     /* an input is not its fixed length, or has fewer bytes than the bits asked for */
+    DESKLINK_WORD_TOO_SHORT = -5,   /* a staircase word to be counted has fewer than N bytes */
+    DESKLINK_MESSAGE_SLACK = -6,    /* a (174,91) message has a set bit among the low five of byte 11 */
+    DESKLINK_TOO_MANY_PAIRS = -7,   /* more than 24 pairs */
+    DESKLINK_OUTPUT_LENGTH = -8,    /* an output is not exactly its length */
+    DESKLINK_WORK_TOO_SHORT = -9,   /* the work area has fewer than DESKLINK_WORK floats */
+    DESKLINK_PAIR_LENGTH = -10,     /* a pair's length is not N */
+    DESKLINK_PAIR_ORDER = -11,      /* a pair starts below the end of the one before */
+    DESKLINK_PAIR_PAST_END = -12,   /* a pair ends past the values */
+    DESKLINK_MALFORMED = -13        /* a program's input is malformed; no call here answers it */
+};
+
+/* The CRC-14 of the first num_bits bits of message, most significant bit first: 0 to 0x3FFF. */
+int32_t desklink_ft8_crc14(const uint8_t *message, size_t message_len, size_t num_bits);
+
+/* payload: 10 bytes; a91: 12 bytes, written. */
+int32_t desklink_ft8_add_crc(const uint8_t *payload, size_t payload_len, uint8_t *a91, size_t a91_len);
+
+/* a91: 12 bytes. The 14 bits at places 77 to 90. */
+int32_t desklink_ft8_extract_crc(const uint8_t *a91, size_t a91_len);
+
+/* message: 12 bytes, the low five bits of the last one 0; codeword: 22 bytes, written. */
+int32_t desklink_ldpc_encode(const uint8_t *message, size_t message_len, uint8_t *codeword, size_t codeword_len);
+
+/* hard: 174 bytes. How many of the 83 checks have bytes whose XOR is not 0. */
+int32_t desklink_ldpc_count_errors(const uint8_t *hard, size_t hard_len);
+
+/* llr: 174 values, positive where 0 is likelier; plain: 174 bytes, written. The count of the chosen word. */
+int32_t desklink_ldpc_decode_soft(const float *llr, size_t llr_len, uint16_t limit, uint8_t *plain, size_t plain_len,
+                                  float *work, size_t work_len);
+
+/* message: K bytes; codeword: N bytes, written. */
+int32_t desklink_encode(uint32_t code, const uint8_t *message, size_t message_len, uint8_t *codeword,
+                        size_t codeword_len);
+
+/* hard: N bytes or more, of which the first N are read. How many checks their low bits leave unsatisfied. */
+int32_t desklink_syndrome_weight(uint32_t code, const uint8_t *hard, size_t hard_len);
+
+/* llr: N values; bits: K bytes, written. Sum-product. The count of the chosen word. */
+int32_t desklink_decode_soft(uint32_t code, uint16_t limit, const float *llr, size_t llr_len, uint8_t *bits,
+                             size_t bits_len, float *work, size_t work_len);
+
+/* The same by the rule with that number; scale is read by rule 2 alone, and may have any bits. */
+int32_t desklink_decode_soft_with(uint32_t code, uint32_t rule, float scale, uint16_t limit, const float *llr,
+                                  size_t llr_len, uint8_t *bits, size_t bits_len, float *work, size_t work_len);
+
+/* Decodes many frames of one code. pairs: for each frame its offset in values and its length, which is N, in turn, sorted
+ * by offset; pairs_len counts those numbers, two a pair, at most 48 (an odd one at the end is not read). bits: K bytes a
+ * pair, written; counts: one place a pair, written. */
+int32_t desklink_decode_batch(uint32_t code, uint32_t rule, uint16_t limit, float scale, const float *values,
+                              size_t values_len, const uint32_t *pairs, size_t pairs_len, uint8_t *bits,
+                              size_t bits_len, uint16_t *counts, size_t counts_len, float *work, size_t work_len);
+
+#ifdef __cplusplus
+}
+#endif
+
+#endif

@@ -1,0 +1,219 @@
+//! Each call, the port and the original Rust side by side on the same inputs: best of many, in microseconds a call.
+//! Run by `cargo run --release --example bench` in rust/, with the original sources found as build.rs says. A word after
+//! `--` limits the table to the rows whose name has it.
+#[path = "../tests/common/mod.rs"]
+mod common;
+
+#[cfg(not(orion))]
+fn main() {
+    eprintln!("the original sources are not there: set ORION_SRC to their folder");
+}
+
+#[cfg(orion)]
+mod orion {
+    include!(concat!(env!("OUT_DIR"), "/orion.rs"));
+}
+
+#[cfg(orion)]
+fn main() {
+    compared::run();
+}
+
+#[cfg(orion)]
+mod compared {
+    use crate::common::{noisy, Random};
+    use crate::orion;
+    use desklink::{DecodeRule, Ldpc, LdpcCode};
+    use std::hint::black_box;
+    use std::time::Instant;
+
+    const SAMPLES: usize = 25;
+    const SAMPLE_SECONDS: f64 = 0.002;
+
+    fn seconds(call: &mut dyn FnMut(), times: usize) -> f64 {
+        let start = Instant::now();
+        for _ in 0..times {
+            call();
+        }
+        start.elapsed().as_secs_f64()
+    }
+
+    /// One row: both sides by turns, the best sample of each.
+    fn row(name: &str, port: &mut dyn FnMut(), original: &mut dyn FnMut()) {
+        if std::env::args().nth(1).is_some_and(|word| !name.contains(&word)) {
+            return;
+        }
+        let mut best = [f64::MAX; 2];
+        let mut times = [1, 1];
+        let mut sides: [&mut dyn FnMut(); 2] = [port, original];
+        for (call, times) in sides.iter_mut().zip(&mut times) {
+            let once = seconds(*call, 3) / 3.0;
+            *times = ((SAMPLE_SECONDS / once) as usize).clamp(1, 1_000_000);
+        }
+        for _ in 0..SAMPLES {
+            for side in 0..2 {
+                best[side] = best[side].min(seconds(sides[side], times[side]) / times[side] as f64);
+            }
+        }
+        let [port, original] = best.map(|s| s * 1e6);
+        println!("| {name} | {port:.3} | {original:.3} | {:.2} |", port / original);
+    }
+
+    const LIMIT: u16 = 20;
+
+    /// The kinds of frames: 24 of each that the original Rust decodes with no round, with 2 to 8 rounds, and not at all.
+    const KINDS: [&str; 3] = ["at once", "2 to 8 rounds", "never"];
+
+    /// The least rounds of the kind, and the rounds by which it is decoded; the third kind is not decoded by the limit.
+    fn is_of_kind(kind: usize, count: &mut dyn FnMut(&[f32], u16) -> usize, llr: &[f32]) -> bool {
+        match kind {
+            0 => count(llr, 0) == 0,
+            1 => count(llr, 1) > 0 && count(llr, 8) == 0,
+            _ => count(llr, LIMIT) > 0,
+        }
+    }
+
+    fn frames(
+        random: &mut Random,
+        kind: usize,
+        word: &mut dyn FnMut(&mut Random) -> Vec<u8>,
+        count: &mut dyn FnMut(&[f32], u16) -> usize,
+    ) -> Vec<Vec<f32>> {
+        let mut found = Vec::new();
+        while found.len() < 24 {
+            let word = word(random);
+            let sigma = [0.0, 0.3 + 0.6 * random.unit(), 3.0][kind];
+            let mut llr = noisy(random, &word, sigma);
+            llr.iter_mut().for_each(|v| *v *= 0.5);
+            if is_of_kind(kind, count, &llr) {
+                found.push(llr);
+            }
+        }
+        found
+    }
+
+    fn ft8_word(random: &mut Random) -> Vec<u8> {
+        let mut message: [u8; 12] = random.bytes(12).try_into().unwrap();
+        message[11] &= 0xE0;
+        let mut packed = [0; 22];
+        orion::ldpc::ldpc_encode(&message, &mut packed);
+        (0..174).map(|i| packed[i / 8] >> (7 - i % 8) & 1).collect()
+    }
+
+    fn checksum(random: &mut Random) {
+        let block: [u8; 12] = random.bytes(12).try_into().unwrap();
+        let payload: [u8; 10] = random.bytes(10).try_into().unwrap();
+        let (mut a, mut b) = ([0; 12], [0; 12]);
+        row(
+            "ft8_crc14, 82 bits",
+            &mut || _ = black_box(desklink::ft8_crc14(black_box(&block), 82)),
+            &mut || _ = black_box(orion::crc::ft8_crc14(black_box(&block), 82)),
+        );
+        row(
+            "ft8_add_crc",
+            &mut || desklink::ft8_add_crc(black_box(&payload), black_box(&mut a)),
+            &mut || orion::crc::ft8_add_crc(black_box(&payload), black_box(&mut b)),
+        );
+        row(
+            "ft8_extract_crc",
+            &mut || _ = black_box(desklink::ft8_extract_crc(black_box(&block))),
+            &mut || _ = black_box(orion::crc::ft8_extract_crc(black_box(&block))),
+        );
+    }
+
+    fn ft8(random: &mut Random) {
+        let mut message: [u8; 12] = random.bytes(12).try_into().unwrap();
+        message[11] &= 0xE0;
+        let (mut a, mut b) = ([0; 22], [0; 22]);
+        row(
+            "ldpc_encode",
+            &mut || desklink::ldpc_encode(black_box(&message), black_box(&mut a)).unwrap(),
+            &mut || orion::ldpc::ldpc_encode(black_box(&message), black_box(&mut b)),
+        );
+        let hard: [u8; 174] = random.bits(174).try_into().unwrap();
+        row(
+            "ldpc_count_errors",
+            &mut || _ = black_box(desklink::ldpc_count_errors(black_box(&hard))),
+            &mut || _ = black_box(orion::ldpc::ldpc_count_errors(black_box(&hard))),
+        );
+        for (kind, what) in KINDS.iter().enumerate() {
+            let mut count = |llr: &[f32], limit: u16| orion::ldpc::ldpc_decode_soft(llr.try_into().unwrap(), limit.into(), &mut [0; 174]);
+            let frames: Vec<[f32; 174]> =
+                frames(random, kind, &mut ft8_word, &mut count).into_iter().map(|f| f.try_into().unwrap()).collect();
+            for count in [1, 24] {
+                let (mut a, mut b) = ([0; 174], [0; 174]);
+                row(
+                    &format!("ldpc_decode_soft, {what}, {count} frames"),
+                    &mut || {
+                        for f in &frames[..count] {
+                            black_box(desklink::ldpc_decode_soft(black_box(f), LIMIT, &mut a));
+                        }
+                    },
+                    &mut || {
+                        for f in &frames[..count] {
+                            black_box(orion::ldpc::ldpc_decode_soft(black_box(f), LIMIT.into(), &mut b));
+                        }
+                    },
+                );
+            }
+        }
+    }
+
+    fn staircase(random: &mut Random, code: LdpcCode, theirs: orion::ldpc_codes::LdpcCode) {
+        let (port, original) = (Ldpc::new(code), orion::ldpc_codes::Ldpc::new(theirs));
+        let message = random.bits(code.k());
+        row(
+            &format!("{code:?} encode"),
+            &mut || drop(black_box(port.encode(black_box(&message)))),
+            &mut || drop(black_box(original.encode(black_box(&message)))),
+        );
+        let hard = random.bits(code.n());
+        row(
+            &format!("{code:?} syndrome_weight"),
+            &mut || _ = black_box(port.syndrome_weight(black_box(&hard))),
+            &mut || _ = black_box(original.syndrome_weight(black_box(&hard))),
+        );
+        let rules = [
+            ("sum-product", DecodeRule::SumProduct, orion::ldpc_codes::DecodeRule::SumProduct),
+            ("min-sum", DecodeRule::MinSum, orion::ldpc_codes::DecodeRule::MinSum),
+            ("scaled min-sum", DecodeRule::ScaledMinSum(0.75), orion::ldpc_codes::DecodeRule::ScaledMinSum(0.75)),
+        ];
+        for (rule, ours, theirs) in rules {
+            for (kind, what) in KINDS.iter().enumerate() {
+                let mut word = |r: &mut Random| original.encode(&r.bits(code.k()));
+                let mut count = |llr: &[f32], limit: u16| original.decode_soft_with(llr, limit.into(), theirs).1;
+                let frames = frames(random, kind, &mut word, &mut count);
+                for count in [1, 24] {
+                    row(
+                        &format!("{code:?} {rule}, {what}, {count} frames"),
+                        &mut || {
+                            for f in &frames[..count] {
+                                drop(black_box(port.decode_soft_with(black_box(f), LIMIT, ours)));
+                            }
+                        },
+                        &mut || {
+                            for f in &frames[..count] {
+                                drop(black_box(original.decode_soft_with(black_box(f), LIMIT.into(), theirs)));
+                            }
+                        },
+                    );
+                }
+            }
+        }
+    }
+
+    pub fn run() {
+        let random = &mut Random(42);
+        println!("| Call | port, µs | Rust, µs | ratio |\n|---|---|---|---|");
+        checksum(random);
+        ft8(random);
+        staircase(random, LdpcCode::N512R12, orion::ldpc_codes::LdpcCode::N512R12);
+        staircase(random, LdpcCode::N576R23, orion::ldpc_codes::LdpcCode::N576R23);
+        staircase(random, LdpcCode::N512R34, orion::ldpc_codes::LdpcCode::N512R34);
+        row(
+            "Ldpc::new, N512R12",
+            &mut || _ = black_box(Ldpc::new(black_box(LdpcCode::N512R12))),
+            &mut || drop(black_box(orion::ldpc_codes::Ldpc::new(black_box(orion::ldpc_codes::LdpcCode::N512R12)))),
+        );
+    }
+}

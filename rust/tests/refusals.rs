@@ -1,0 +1,250 @@
+//! Every refusal's neighbourhood: what is turned down, by which number, and that nothing was written. Needs no original sources.
+mod common;
+
+use common::Random;
+use desklink::{slices, Refusal};
+
+const N: [usize; 3] = [512, 576, 512];
+const K: [usize; 3] = [256, 384, 384];
+
+/// Lengths about n, and far from it.
+fn near(n: usize) -> [usize; 8] {
+    [0, 1, n - 1, n, n + 1, n + 2, 2 * n, 4 * n]
+}
+
+/// The number of the first condition that holds.
+fn first(conditions: &[(bool, Refusal)]) -> Option<Refusal> {
+    conditions.iter().find(|c| c.0).map(|c| c.1)
+}
+
+/// An answer is the refusal expected, or none where none is.
+fn expect<T: std::fmt::Debug>(answer: Result<T, Refusal>, expected: Option<Refusal>) -> bool {
+    assert_eq!(answer.as_ref().err().copied(), expected, "{answer:?}");
+    expected.is_some()
+}
+
+fn same_bits(a: &[f32], b: &[f32]) -> bool {
+    a.len() == b.len() && a.iter().zip(b).all(|(x, y)| x.to_bits() == y.to_bits())
+}
+
+#[test]
+fn checksum() {
+    let random = &mut Random(1);
+    for payload in near(10) {
+        for block in near(12) {
+            let before = random.bytes(block);
+            let mut a91 = before.clone();
+            let expected = first(&[(payload != 10, Refusal::InputLength), (block != 12, Refusal::OutputLength)]);
+            if expect(slices::ft8_add_crc(&random.bytes(payload), &mut a91), expected) {
+                assert_eq!(a91, before);
+            }
+        }
+    }
+    for block in near(12) {
+        expect(slices::ft8_extract_crc(&random.bytes(block)), first(&[(block != 12, Refusal::InputLength)]));
+    }
+    for bits in 0..100 {
+        let needed = usize::div_ceil(bits, 8);
+        for len in 0..14 {
+            expect(slices::ft8_crc14(&random.bytes(len), bits), first(&[(len < needed, Refusal::InputLength)]));
+        }
+    }
+}
+
+#[test]
+fn ft8_encode_and_count() {
+    let random = &mut Random(2);
+    for length in near(12) {
+        for output in near(22) {
+            for slack in 0..32 {
+                let mut message = random.bytes(length);
+                if length > 11 {
+                    message[11] = message[11] & 0xE0 | slack;
+                }
+                let before = random.bytes(output);
+                let mut codeword = before.clone();
+                let expected = first(&[
+                    (length != 12, Refusal::InputLength),
+                    (slack != 0, Refusal::MessageSlack),
+                    (output != 22, Refusal::OutputLength),
+                ]);
+                if expect(slices::ldpc_encode(&message, &mut codeword), expected) {
+                    assert_eq!(codeword, before);
+                }
+            }
+        }
+    }
+    for length in near(174) {
+        expect(slices::ldpc_count_errors(&random.bytes(length)), first(&[(length != 174, Refusal::InputLength)]));
+    }
+}
+
+#[test]
+fn staircase_encode_and_count() {
+    let random = &mut Random(3);
+    for code in [0, 1, 2, 3, 4, 255, 256, 257, 65_536, u32::MAX] {
+        let (n, k) = if code < 3 { (N[code as usize], K[code as usize]) } else { (512, 256) };
+        for length in near(k) {
+            for output in near(n) {
+                let before = random.bytes(output);
+                let mut codeword = before.clone();
+                let expected = first(&[
+                    (code > 2, Refusal::UnknownCode),
+                    (length != k, Refusal::InputLength),
+                    (output != n, Refusal::OutputLength),
+                ]);
+                if expect(slices::encode(code, &random.bytes(length), &mut codeword), expected) {
+                    assert_eq!(codeword, before);
+                }
+            }
+        }
+        for length in near(n) {
+            let expected = first(&[(code > 2, Refusal::UnknownCode), (length < n, Refusal::WordTooShort)]);
+            expect(slices::syndrome_weight(code, &random.bytes(length)), expected);
+        }
+    }
+}
+
+#[test]
+fn ft8_decode() {
+    let random = &mut Random(4);
+    for values in near(174) {
+        for output in near(174) {
+            for area in [0, 1, 3069, 3070, 3071, 4000] {
+                let llr: Vec<f32> = (0..values).map(|_| random.pattern()).collect();
+                let (before, held) = (random.bytes(output), (0..area).map(|_| random.pattern()).collect::<Vec<f32>>());
+                let (mut plain, mut work) = (before.clone(), held.clone());
+                let expected = first(&[
+                    (values != 174, Refusal::InputLength),
+                    (output != 174, Refusal::OutputLength),
+                    (area < 3070, Refusal::WorkTooShort),
+                ]);
+                if expect(slices::ldpc_decode_soft(&llr, 2, &mut plain, &mut work), expected) {
+                    assert!(plain == before && same_bits(&work, &held));
+                }
+            }
+        }
+    }
+}
+
+#[test]
+fn staircase_decode() {
+    let random = &mut Random(5);
+    for code in [0, 1, 2, 3, 4, 256, u32::MAX] {
+        let (n, k) = if code < 3 { (N[code as usize], K[code as usize]) } else { (512, 256) };
+        for rule in [0, 1, 2, 3, 4, 5, 256, u32::MAX] {
+            for values in [0, n - 1, n, n + 1] {
+                for output in [0, k - 1, k, k + 1] {
+                    for area in [0, 3069, 3070, 3071] {
+                        let llr: Vec<f32> = (0..values).map(|_| random.pattern()).collect();
+                        let (before, held) = (random.bytes(output), (0..area).map(|_| random.pattern()).collect::<Vec<f32>>());
+                        let (mut bits, mut work) = (before.clone(), held.clone());
+                        let frame = [
+                            (values != n, Refusal::InputLength),
+                            (output != k, Refusal::OutputLength),
+                            (area < 3070, Refusal::WorkTooShort),
+                        ];
+                        let with = [&[(code > 2, Refusal::UnknownCode), (rule > 3, Refusal::UnknownRule)][..], &frame].concat();
+                        if expect(slices::decode_soft_with(code, rule, random.pattern(), 1, &llr, &mut bits, &mut work), first(&with)) {
+                            assert!(bits == before && same_bits(&work, &held));
+                        }
+                        let (mut bits, mut work) = (before.clone(), held.clone());
+                        let plain = [&[(code > 2, Refusal::UnknownCode)][..], &frame].concat();
+                        if expect(slices::decode_soft(code, 1, &llr, &mut bits, &mut work), first(&plain)) {
+                            assert!(bits == before && same_bits(&work, &held));
+                        }
+                    }
+                }
+            }
+        }
+    }
+}
+
+/// The number of the first faulty pair, and nothing where none is: 10, 11 and 12 in turn at each.
+fn pair_fault(n: usize, values: usize, pairs: &[[u32; 2]]) -> Option<Refusal> {
+    let mut end = 0;
+    for &[offset, length] in pairs {
+        let (offset, length) = (offset as usize, length as usize);
+        let fault = first(&[
+            (length != n, Refusal::PairLength),
+            (offset < end, Refusal::PairOrder),
+            (offset + length > values, Refusal::PairPastEnd),
+        ]);
+        if fault.is_some() {
+            return fault;
+        }
+        end = offset + length;
+    }
+    None
+}
+
+/// Pairs that follow each other, of which a few may then be spoilt.
+fn some_pairs(random: &mut Random, n: usize) -> Vec<[u32; 2]> {
+    let count = random.pick(&[0, 1, 2, 3, 23, 24, 25, 26]);
+    let mut end = 0;
+    let mut pairs: Vec<[u32; 2]> = Vec::new();
+    for _ in 0..count {
+        end += random.below(3);
+        pairs.push([end as u32, n as u32]);
+        end += n;
+    }
+    for _ in 0..random.below(3) * count.min(1) {
+        let at = random.below(count);
+        match random.below(6) {
+            0 => pairs[at][1] = pairs[at][1].wrapping_sub(1),
+            1 => pairs[at][1] += 1,
+            2 => pairs[at][0] = pairs[at][0].wrapping_sub(1),
+            3 => pairs[at][0] = random.pick(&[0, u32::MAX, u32::MAX - n as u32, 1 << 31]),
+            4 => pairs[at] = [0, 0],
+            _ => pairs[at] = [u32::MAX, u32::MAX],
+        }
+    }
+    pairs
+}
+
+#[test]
+fn batch() {
+    let random = &mut Random(6);
+    for _ in 0..3_000 {
+        let code = random.pick(&[0, 1, 2, 3, 3, 3, 4, 256, u32::MAX]);
+        let rule = random.pick(&[0, 0, 1, 2, 3, 3, 4, u32::MAX]);
+        let (n, k) = [(512, 256), (576, 384), (512, 384), (174, 91)][code.min(3) as usize];
+        let pairs = some_pairs(random, n);
+        let spare = random.pick(&[0, 0, 1, 5]);
+        let room = pairs.len() * (n + 2) + spare;
+        let values: Vec<f32> = vec![1.0; room - random.pick(&[0, 0, 0, 1, n]).min(room)];
+        let bit_places = (pairs.len() * k + random.pick(&[0, 0, 0, 1])).saturating_sub(random.pick(&[0, 0, 0, 1]));
+        let count_places = (pairs.len() + random.pick(&[0, 0, 0, 1])).saturating_sub(random.pick(&[0, 0, 0, 1]));
+        let area = random.pick(&[3070, 3070, 3071, 3069, 0]);
+        let (bits_before, held) = (random.bytes(bit_places), (0..area).map(|_| random.pattern()).collect::<Vec<f32>>());
+        let counts_before: Vec<u16> = (0..count_places).map(|_| random.next() as u16).collect();
+        let (mut bits, mut counts, mut work) = (bits_before.clone(), counts_before.clone(), held.clone());
+        let expected = first(&[
+            (code > 3, Refusal::UnknownCode),
+            (rule > 3, Refusal::UnknownRule),
+            (code == 3 && (rule == 1 || rule == 2), Refusal::RuleNotOfCode),
+            (pairs.len() > 24, Refusal::TooManyPairs),
+            (bit_places != pairs.len() * k, Refusal::OutputLength),
+            (count_places != pairs.len(), Refusal::OutputLength),
+            (area < 3070, Refusal::WorkTooShort),
+        ])
+        .or_else(|| pair_fault(n, values.len(), &pairs));
+        let answer = slices::decode_batch(code, rule, 2, 0.5, &values, &pairs, &mut bits, &mut counts, &mut work);
+        if expect(answer, expected) {
+            assert!(bits == bits_before && counts == counts_before && same_bits(&work, &held));
+        } else {
+            assert!(bits.iter().all(|&b| b == 0) && counts.iter().all(|&c| c == 0));
+            assert!(work[..3070].iter().all(|v| v.to_bits() == 0) && same_bits(&work[3070..], &held[3070..]));
+        }
+    }
+}
+
+#[test]
+fn every_refusal_has_its_number_and_a_sentence() {
+    for number in 1..=13 {
+        let refusal = Refusal::from_number(number).unwrap();
+        assert_eq!(refusal.number(), number);
+        assert!(refusal.to_string().len() > 15);
+    }
+    assert_eq!((Refusal::from_number(0), Refusal::from_number(14)), (None, None));
+}

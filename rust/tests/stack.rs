@@ -1,0 +1,59 @@
+//! Every call fits a stack of 64 KiB, which here holds the thread's own frames as well.
+mod common;
+
+use common::Random;
+use desklink::slices;
+
+const STACK: usize = 64 * 1024;
+
+/// Runs the call on a thread with a stack of that size: it dies where the stack is too small.
+fn on_small_stack(call: impl FnOnce() + Send + 'static) {
+    std::thread::Builder::new().stack_size(STACK).spawn(call).unwrap().join().unwrap();
+}
+
+#[test]
+fn decoders() {
+    for code in 0..3 {
+        for rule in 0..4 {
+            let random = &mut Random(u64::from(10 * code + rule));
+            let (n, k) = [(512, 256), (576, 384), (512, 384)][code as usize];
+            let llr: Vec<f32> = (0..n).map(|_| random.normal() as f32).collect();
+            let (mut bits, mut work) = (vec![0; k], vec![0.0; slices::WORK]);
+            on_small_stack(move || {
+                slices::decode_soft_with(code, rule, 0.75, 5, &llr, &mut bits, &mut work).unwrap();
+            });
+        }
+    }
+    let random = &mut Random(99);
+    let llr: Vec<f32> = (0..174).map(|_| random.normal() as f32).collect();
+    let (mut plain, mut work) = (vec![0; 174], vec![0.0; slices::WORK]);
+    on_small_stack(move || {
+        slices::ldpc_decode_soft(&llr, 5, &mut plain, &mut work).unwrap();
+    });
+}
+
+#[test]
+fn batch() {
+    for code in 0..4 {
+        let random = &mut Random(u64::from(code));
+        let (n, k) = [(512, 256), (576, 384), (512, 384), (174, 91)][code as usize];
+        let values: Vec<f32> = (0..24 * n).map(|_| random.normal() as f32).collect();
+        let pairs: Vec<[u32; 2]> = (0..24).map(|j| [(j * n) as u32, n as u32]).collect();
+        let (mut bits, mut counts, mut work) = (vec![0; 24 * k], vec![0; 24], vec![0.0; slices::WORK]);
+        on_small_stack(move || {
+            slices::decode_batch(code, 0, 5, 1.0, &values, &pairs, &mut bits, &mut counts, &mut work).unwrap();
+        });
+    }
+}
+
+#[test]
+fn encoders_and_counters() {
+    on_small_stack(|| {
+        let mut codeword = vec![0; 512];
+        slices::encode(0, &[1; 256], &mut codeword).unwrap();
+        slices::syndrome_weight(0, &codeword).unwrap();
+        let mut packed = [0; 22];
+        slices::ldpc_encode(&[0; 12], &mut packed).unwrap();
+        slices::ldpc_count_errors(&[1; 174]).unwrap();
+    });
+}
