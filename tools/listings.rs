@@ -298,6 +298,27 @@ fn refused_inputs(all: &mut Vec<Vec<u8>>) {
     all.push(uncounted);
 }
 
+// Inputs with two faults, for each pair of refusals that a program's input can meet.
+fn faulty_twice(all: &mut Vec<Vec<u8>>) {
+    let fault = |input: &mut Input, which: usize| match which {
+        0 => input.code = 4,
+        1 => input.rule = 4,
+        2 => input.rule = 1,
+        3 => input.pairs = (0..25).map(|j| (174 * j, 174)).collect(),
+        4 => input.pairs[0].1 = 173,
+        5 => input.pairs[1].0 = 100,
+        _ => input.values.truncate(347),
+    };
+    for first in 0..7 {
+        for second in first..7 {
+            let mut input = Input::new(3, 0, 1).pair(0, 174).pair(174, 174).values(&[1.0; 348]);
+            fault(&mut input, first);
+            fault(&mut input, second);
+            all.push(input.bytes());
+        }
+    }
+}
+
 // As many values as fit 65,536 bytes, 24 frames among them; and one byte, and one value, more.
 fn longest_inputs(codes: &Codes, random: &mut Random, all: &mut Vec<Vec<u8>>) {
     let mut input = Input::new(1, 1, 3);
@@ -352,6 +373,80 @@ fn odd_inputs(codes: &Codes, random: &mut Random, all: &mut Vec<Vec<u8>>) {
     all.push(Input::new(3, 0, 200).frame(&noisy(codes, 3, 1.5, random)).bytes());
 }
 
+// Values about a noisy frame's that decoders treat with care: subnormals, ties of the least magnitude, any bits at all.
+fn hostile(codes: &Codes, code: u8, kind: usize, random: &mut Random) -> Vec<f32> {
+    let noise = [0.1, 0.5, 0.65, 0.8, 2.0][kind % 5];
+    let mut llr = noisy(codes, code, noise, random);
+    for v in llr.iter_mut() {
+        let word = random.word();
+        match kind / 5 {
+            0 => {}
+            1 => *v = if *v < 0.0 { -1.0 } else { 1.0 } * (1 + word % 3) as f32,
+            2 if word % 4 == 0 => *v = f32::from_bits(word & 0x807F_FFFF),
+            2 => *v = f32::from_bits(v.to_bits() & 0x8000_0000 | 1 + word % 2),
+            3 if word % 16 == 0 => *v = [0.0, -0.0, f32::INFINITY, f32::NEG_INFINITY, f32::NAN][word as usize / 16 % 5],
+            3 => {}
+            _ => *v = f32::from_bits(word),
+        }
+    }
+    llr
+}
+
+// The decoders: each code and rule, each limit, frames of every kind, scales of every kind.
+fn decoder_inputs(codes: &Codes, random: &mut Random, all: &mut Vec<Vec<u8>>) {
+    let scales = [0.75f32.to_bits(), 0xC000_0000, 0x0000_0007, 0x7F80_0000, 0x8000_0000, 0x7FC0_0001];
+    for code in 0..4 {
+        for rule in if code == 3 { 0..1 } else { 0..3 } {
+            for (turn, limit) in [0, 1, 2, 5, 20, 50].into_iter().enumerate() {
+                let mut input = Input::new(code, rule, limit).scale(scales[turn]);
+                for i in 0..5 {
+                    input = input.frame(&hostile(codes, code, 5 * i + (turn + i) % 5, random));
+                }
+                all.push(input.bytes());
+            }
+        }
+    }
+}
+
+// Batches of 0, 1, 2 and 24 frames of each code, with gaps that hold junk and without.
+fn batch_inputs(codes: &Codes, random: &mut Random, all: &mut Vec<Vec<u8>>) {
+    for code in 0..4 {
+        for count in [0, 1, 2, 24] {
+            for gap in [0, 3] {
+                let mut input = Input::new(code, 0, 2);
+                for _ in 0..count {
+                    let junk: Vec<f32> = (0..gap).map(|_| f32::from_bits(random.word())).collect();
+                    input = input.values(&junk).frame(&noisy(codes, code, 0.6, random));
+                }
+                all.push(input.bytes());
+            }
+        }
+    }
+}
+
+// One nearly lost frame through batches at different places, beside different neighbours, under limits 0 to 30.
+// Its count never rises, and equal counts have equal bits.
+fn carried_inputs(codes: &Codes, random: &mut Random, all: &mut Vec<Vec<u8>>) {
+    for code in 0..4 {
+        let frame = noisy(codes, code, 0.78, random);
+        let mut last: Option<(Vec<u8>, usize)> = None;
+        for limit in 0..31 {
+            let place = limit as usize % 3;
+            let mut input = Input::new(code, 0, limit);
+            for j in 0..3 {
+                let other = noisy(codes, code, 0.9, random);
+                input = input.values(&[0.5; 1]).frame(if j == place { &frame } else { &other });
+            }
+            all.push(input.bytes());
+            let (bits, found) = codes.decode(code, 0, 0.0, limit, &frame);
+            if let Some((before, count)) = &last {
+                assert!(found <= *count && (found != *count || bits == *before));
+            }
+            last = Some((bits, found));
+        }
+    }
+}
+
 // Several noisy frames of one code.
 fn sample(codes: &Codes, code: u8, random: &mut Random) -> Vec<u8> {
     let mut input = Input::new(code, 0, 30);
@@ -377,9 +472,13 @@ fn main() {
     }
     malformed_inputs(&mut all);
     refused_inputs(&mut all);
+    faulty_twice(&mut all);
     longest_inputs(&codes, random, &mut all);
     decoded_inputs(&codes, random, &mut all);
     odd_inputs(&codes, random, &mut all);
+    decoder_inputs(&codes, random, &mut all);
+    batch_inputs(&codes, random, &mut all);
+    carried_inputs(&codes, random, &mut all);
     let mut stdin = vec![];
     let mut stdout = String::new();
     for s in &all {
