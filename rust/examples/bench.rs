@@ -1,6 +1,7 @@
 //! Each call, the port and the original Rust side by side on the same inputs: best of many, in microseconds a call.
 //! Run by `cargo run --release --example bench` in rust/, with the original sources found as build.rs says. A word after
-//! `--` limits the table to the rows whose name has it.
+//! `--` limits the table to the rows whose name has it. A row of 1 frame takes 24 frames in turn, one a call; a row of 24
+//! frames is one batch of the port and 24 calls of the Rust.
 #[path = "../tests/common/mod.rs"]
 mod common;
 
@@ -23,7 +24,7 @@ fn main() {
 mod compared {
     use crate::common::{noisy, Random};
     use crate::orion;
-    use desklink::{DecodeRule, Ldpc, LdpcCode};
+    use desklink::{Batch, BatchCode, DecodeRule, Ldpc, LdpcCode};
     use std::hint::black_box;
     use std::time::Instant;
 
@@ -140,23 +141,37 @@ mod compared {
             let mut count = |llr: &[f32], limit: u16| orion::ldpc::ldpc_decode_soft(llr.try_into().unwrap(), limit.into(), &mut [0; 174]);
             let frames: Vec<[f32; 174]> =
                 frames(random, kind, &mut ft8_word, &mut count).into_iter().map(|f| f.try_into().unwrap()).collect();
-            for count in [1, 24] {
-                let (mut a, mut b) = ([0; 174], [0; 174]);
-                row(
-                    &format!("ldpc_decode_soft, {what}, {count} frames"),
-                    &mut || {
-                        for f in &frames[..count] {
-                            black_box(desklink::ldpc_decode_soft(black_box(f), LIMIT, &mut a));
-                        }
-                    },
-                    &mut || {
-                        for f in &frames[..count] {
-                            black_box(orion::ldpc::ldpc_decode_soft(black_box(f), LIMIT.into(), &mut b));
-                        }
-                    },
-                );
-            }
+            let (mut a, mut b) = ([0; 174], [0; 174]);
+            let (mut i, mut j) = (0, 0);
+            row(
+                &format!("ldpc_decode_soft, {what}, 1 frame"),
+                &mut || {
+                    i = (i + 1) % 24;
+                    black_box(desklink::ldpc_decode_soft(black_box(&frames[i]), LIMIT, &mut a));
+                },
+                &mut || {
+                    j = (j + 1) % 24;
+                    black_box(orion::ldpc::ldpc_decode_soft(black_box(&frames[j]), LIMIT.into(), &mut b));
+                },
+            );
+            batch_row(&format!("ldpc_decode_soft, {what}, 24 frames"), BatchCode::Ft8, &frames, &mut || {
+                for f in &frames {
+                    black_box(orion::ldpc::ldpc_decode_soft(black_box(f), LIMIT.into(), &mut b));
+                }
+            });
         }
+    }
+
+    /// 24 frames: one batch of the port, and 24 calls of the original.
+    fn batch_row<T: AsRef<[f32]>>(name: &str, code: BatchCode, frames: &[T], original: &mut dyn FnMut()) {
+        let values: Vec<f32> = frames.iter().flat_map(|f| f.as_ref().to_vec()).collect();
+        let pairs: Vec<[u32; 2]> = (0..frames.len()).map(|j| [(j * code.n()) as u32, code.n() as u32]).collect();
+        let (mut bits, mut counts) = (vec![0; frames.len() * code.k()], vec![0; frames.len()]);
+        let mut port = || {
+            let (values, pairs) = (black_box(&values[..]), &pairs[..]);
+            Batch { code, limit: LIMIT, values, pairs, bits: &mut bits, counts: &mut counts }.decode().unwrap();
+        };
+        row(name, &mut port, original);
     }
 
     fn staircase(random: &mut Random, code: LdpcCode, theirs: orion::ldpc_codes::LdpcCode) {
@@ -183,21 +198,23 @@ mod compared {
                 let mut word = |r: &mut Random| original.encode(&r.bits(code.k()));
                 let mut count = |llr: &[f32], limit: u16| original.decode_soft_with(llr, limit.into(), theirs).1;
                 let frames = frames(random, kind, &mut word, &mut count);
-                for count in [1, 24] {
-                    row(
-                        &format!("{code:?} {rule}, {what}, {count} frames"),
-                        &mut || {
-                            for f in &frames[..count] {
-                                drop(black_box(port.decode_soft_with(black_box(f), LIMIT, ours)));
-                            }
-                        },
-                        &mut || {
-                            for f in &frames[..count] {
-                                drop(black_box(original.decode_soft_with(black_box(f), LIMIT.into(), theirs)));
-                            }
-                        },
-                    );
-                }
+                let (mut i, mut j) = (0, 0);
+                row(
+                    &format!("{code:?} {rule}, {what}, 1 frame"),
+                    &mut || {
+                        i = (i + 1) % 24;
+                        drop(black_box(port.decode_soft_with(black_box(&frames[i]), LIMIT, ours)));
+                    },
+                    &mut || {
+                        j = (j + 1) % 24;
+                        drop(black_box(original.decode_soft_with(black_box(&frames[j]), LIMIT.into(), theirs)));
+                    },
+                );
+                batch_row(&format!("{code:?} {rule}, {what}, 24 frames"), BatchCode::Staircase(code, ours), &frames, &mut || {
+                    for f in &frames {
+                        drop(black_box(original.decode_soft_with(black_box(f), LIMIT.into(), theirs)));
+                    }
+                });
             }
         }
     }
