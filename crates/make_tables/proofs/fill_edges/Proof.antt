@@ -1,0 +1,76 @@
+-- `make_tables::fill_edges` is safe and ends: it counts up to N. Assumes nothing.
+use mathlib.Core.Path.{_≡_}
+use Prim.Native.Nat.{_≤_, _-_}
+use lib.ListN.{length}
+use borrow.Author.Needs.{needs}
+use Rattle.make_tables.proofs.fill_edges.Statement.{statement}
+use Rattle.make_tables.proofs.fill_edges.Tie as tie
+use Rattle.make_tables.proofs.fill_edges.Reads as reads
+use Rattle.make_tables.proofs.fill_edges.Lts as lts
+use Rattle.make_tables.proofs.places.Reads as places-reads
+use Rattle.make_tables.proofs.put.Reads as put-reads
+
+abbrev Inv-loop : tie.InvT-loop
+Inv-loop flat n starts₀ edges₀ at₀ p₀ starts edges at p = (p ≤ n) × (length starts ≡ length starts₀) × (length edges ≡ length edges₀)
+
+abbrev μ-loop : tie.MeasureT-loop
+μ-loop flat n starts₀ edges₀ at₀ p₀ starts edges at p = n - p
+
+loop-holds : tie.Need-loop-holds Inv-loop μ-loop
+loop-holds c = search needs
+
+cast-put : tie.Need-cast-put Inv-loop μ-loop
+cast-put c = search needs
+
+cast-put-2 : tie.Need-cast-put-2 Inv-loop μ-loop
+cast-put-2 c = search needs
+
+put-requires : tie.Need-put-requires Inv-loop μ-loop
+put-requires c κs = search needs
+
+places-requires : tie.Need-places-requires Inv-loop μ-loop
+places-requires c κs = search needs
+
+add-p : tie.Need-add-p Inv-loop μ-loop
+add-p c = search needs
+
+loop-less : tie.Need-loop-less Inv-loop μ-loop
+loop-less c = search needs
+
+loop-again : tie.Need-loop-again Inv-loop μ-loop
+loop-again c = search needs
+
+cast-put-3 : tie.Need-cast-put-3 Inv-loop μ-loop
+cast-put-3 c = search needs
+
+put-requires-2 : tie.Need-put-requires-2 Inv-loop μ-loop
+put-requires-2 c κs = search needs
+
+same-length : tie.Need-same-length Inv-loop μ-loop
+same-length c = search needs
+
+same-length-2 : tie.Need-same-length-2 Inv-loop μ-loop
+same-length-2 c = search needs
+
+returns : tie.Need-returns Inv-loop μ-loop
+returns c = search needs
+
+pub fill-edges-spec : {M : Type 1} → statement M
+fill-edges-spec =
+    tie.close
+    (tie.spec
+    Inv-loop
+    μ-loop
+    loop-holds
+    cast-put
+    cast-put-2
+    put-requires
+    places-requires
+    add-p
+    loop-less
+    loop-again
+    cast-put-3
+    put-requires-2
+    same-length
+    same-length-2
+    returns)
