@@ -13,10 +13,10 @@ use lib.Seq.{take-at, drop-append-add, length-take-le, getD-take}
 use Rattle.tanner.specs.Checks.{Word, Checks, count}
 use Rattle.tanner.specs.Flat.{joined, Below}
 use Rattle.construction.specs.Codes.{Code}
-use Rattle.ldpc_codes.specs.Codes.{codeOf, columns, checks}
-use Rattle.ldpc_codes.specs.Staircase.{encoded}
+use Rattle.staircase.specs.Codes.{codeOf, columns, checks}
+use Rattle.staircase.specs.Staircase.{encoded}
 use Rattle.ldpc_codes.specs.Calls.{encodedBy}
-use Rattle.ldpc_codes.proofs.Laid.{columns-length}
+use Rattle.staircase.proofs.EdgeCount.{columns-length}
 use Rattle.ldpc_codes.proofs.Codewords.{count-encoded, zero-count-encoded}
 use Rattle.belief.specs.Rounds.{Decode, answers, decidedFrom, decided, sent, initialWord, firstMessages, wordsFrom, roundWords, unlessDone, better, chosenFrom, chosen, chosenCount, chosenBits}
 use Rattle.belief.specs.Chosen.{words, FirstLeast}

@@ -14,7 +14,7 @@ use Rattle.belief.specs.Rounds.{Decode, chosenCount, chosenBits}
 use Rattle.belief.specs.Chosen.{Chose}
 use Rattle.belief.specs.Graph.{cleared}
 use Rattle.softmath.specs.Single.{zero32}
-use Rattle.ldpc_codes.specs.Codes.{codeOf}
+use Rattle.staircase.specs.Codes.{codeOf}
 use Rattle.decoders.specs.Decodes.{ruleOf, staircaseDecode, ft8Decode}
 use Rattle.batch.specs.Codes.{sizeN, sizeK, decodeOf}
 use Rattle.batch.specs.Pairs.{Pair, pairsOf, frameOf, framesOf}

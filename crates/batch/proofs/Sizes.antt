@@ -3,7 +3,7 @@ use mathlib.Core.Path.{_≡_, refl, sym, ap, _∙_}
 use Prim.Native.Nat.{ℕ, zero, suc, _+_, _*_, _<_, _≤_}
 use native.Mathlib.Nat.{mul-le-mul}
 use native.Mathlib.Omega.{arith}
-use Rattle.ldpc_codes.specs.Codes.{codeOf}
+use Rattle.staircase.specs.Codes.{codeOf}
 use Rattle.batch.specs.Codes.{sizeN, sizeK}
 
 pub values-ft8 : (n : ℕ) → 2 < n → 174 ≡ sizeN n

@@ -3,7 +3,7 @@ use mathlib.Core.List.{List}
 use Prim.Native.Nat.{ℕ, zero, suc, _+_}
 use lib.Ieee.{Float}
 use Rattle.construction.specs.Codes.{Code}
-use Rattle.ldpc_codes.specs.Codes.{codeOf}
+use Rattle.staircase.specs.Codes.{codeOf}
 use Rattle.belief.specs.Rounds.{Decode}
 use Rattle.decoders.specs.Decodes.{ruleOf, staircaseDecode, ft8Decode}
 

@@ -1,4 +1,4 @@
--- Each message column lies in three different rows, for any K, any seed and at least three rows: a pick never takes a row that the column holds.
+-- A column's three picks take different rows, for any earlier columns, any state and at least three rows: a pick never takes a row that the column holds.
 -- The search skips such rows, and among three rows one is free for the relaxed pick.
 use mathlib.Core.Path.{_≡_, refl, sym, ap, _∙_}
 use mathlib.Core.Bool.{Bool, true, false, cond, _||_, or-true, true≢false, false≢true}
@@ -12,10 +12,8 @@ use lib.Dec.{ltb, eqb}
 use lib.Arith.{lt-of-le-ne}
 use lib.ListN.{length, length-append}
 use Rattle.construction.specs.Draw.{draw}
-use Rattle.construction.specs.Columns.{Found, row, nothing, Choice, upFrom, onceRound, holds, together, skipped, load, without, leastOf, firstLeast, search, firstOutside, settled, pick, onePick, picks, times, sorted, finished, nextColumn, made}
+use Rattle.construction.specs.Columns.{Found, row, nothing, Choice, upFrom, onceRound, holds, together, skipped, load, without, leastOf, firstLeast, search, firstOutside, settled, pick, onePick, picks, times}
 use Rattle.construction.proofs.Columns.{holds-append}
-use Rattle.construction.proofs.Made.{sorted-length}
-use Rattle.construction.proofs.Agree.{times-sorted}
 
 or-left : (a b : Bool) → (a || b) ≡ false → a ≡ false
 or-left true b e = e
@@ -183,7 +181,7 @@ picks-different (suc t) m cs s h some =
     (pick-out m cs (picks t m cs s .rows) _ some (omega (arith, picks-length t m cs s)))
 
 -- the three rows of a column, in the order of the picks, are different
-three-different : (m : ℕ) (cs : List (List ℕ)) (s : ℕ) → 3 ≤ m → Different (picks 3 m cs s .rows) × (length (picks 3 m cs s .rows) ≡ 3)
+pub three-different : (m : ℕ) (cs : List (List ℕ)) (s : ℕ) → 3 ≤ m → Different (picks 3 m cs s .rows) × (length (picks 3 m cs s .rows) ≡ 3)
 three-different m cs s some = (picks-different 3 m cs s (omega arith) some, picks-length 3 m cs s)
 
 -- ---- so no row stands twice in a column, sorted or not
@@ -198,22 +196,7 @@ once-if x r xs true e d h =
     omega (arith, rw same at (times-none xs x d))
 once-if x r xs false e d h = omega arith
 
-different-once : (l : List ℕ) (r : ℕ) → Different l → times l r ≤ 1
+pub different-once : (l : List ℕ) (r : ℕ) → Different l → times l r ≤ 1
 unfolding Different times
 different-once [] r d = omega arith
 different-once (x ∷ xs) r d = once-if x r xs (eqb x r) refl (d .0) (different-once xs r (d .1))
-
--- each column has three rows, and none of them twice
-pub data Spread : List (List ℕ) → Type 0 where
-  none : Spread []
-  more : {c : List ℕ} {cs : List (List ℕ)} → length c ≡ 3 → ((r : ℕ) → times c r ≤ 1) → Spread cs → Spread (c ∷ cs)
-
--- "each message column in three different rows", for any K, any seed and at least three rows
-pub columns-spread : (k m seed : ℕ) → 3 ≤ m → Spread (made k m seed .columns)
-unfolding made nextColumn finished
-columns-spread zero m seed some = none
-columns-spread (suc k) m seed some =
-    let g = made k m seed in
-    let p = picks 3 m (g .columns) (g .state) .rows in
-    let three = three-different m (g .columns) (g .state) some in
-    more {c = sorted p} (sorted-length p ∙ three .1) (λ r. rw (times-sorted p r) (different-once p r (three .0))) (columns-spread k m seed some)

@@ -10,7 +10,7 @@ use lib.Ieee.{Float}
 use lib.ListN.{length}
 use Rattle.refusal.specs.Outcome.{Outcome, accepted, judged, kept}
 use Rattle.construction.specs.Codes.{Code}
-use Rattle.ldpc_codes.specs.Codes.{codeOf}
+use Rattle.staircase.specs.Codes.{codeOf}
 use Rattle.softmath.specs.declared.DecodeRule.{DecodeRule}
 use Rattle.softmath.specs.declared.DecodeRule.the-variants.{SumProduct, MinSum, ScaledMinSum}
 use Rattle.belief.specs.Rounds.{chosenCount, chosenBits}

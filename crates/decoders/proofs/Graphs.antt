@@ -8,7 +8,7 @@ use Rattle.construction.specs.Codes.{Code}
 use Rattle.tanner.specs.Flat.{offsets, joined, bitEdges}
 use Rattle.belief.specs.Graph.{Graph}
 use Rattle.belief.proofs.Laid.{graph-laid}
-use Rattle.ldpc_codes.specs.Codes as staircase
+use Rattle.staircase.specs.Codes as staircase
 use Rattle.ldpc_codes.proofs.Laid.{laid-flat}
 use Rattle.ldpc_codes.proofs.Codewords.{checks-length}
 use Rattle.ldpc.specs.Code174 as code174

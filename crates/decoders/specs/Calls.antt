@@ -8,7 +8,7 @@ use lib.ListN.{length}
 use Rattle.refusal.specs.Outcome.{Outcome, accepted, refused, Condition, _when_}
 use Rattle.refusal.specs.Numbers.{numberOf}
 use Rattle.construction.specs.Codes.{Code}
-use Rattle.ldpc_codes.specs.Codes.{codeOf}
+use Rattle.staircase.specs.Codes.{codeOf}
 use Rattle.decoders.specs.declared.Decoding.{Decoding}
 use Rattle.decoders.specs.declared.Decoding.the-variants.{Count, Refused}
 

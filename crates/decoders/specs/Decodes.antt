@@ -6,7 +6,7 @@ use Rattle.softmath.specs.declared.DecodeRule.{DecodeRule}
 use Rattle.softmath.specs.declared.DecodeRule.the-variants.{SumProduct, MinSum, ScaledMinSum, Ft8}
 use Rattle.softmath.specs.declared.SumKind.the-variants.{Total, Others}
 use Rattle.construction.specs.Codes.{Code}
-use Rattle.ldpc_codes.specs.Codes as staircase
+use Rattle.staircase.specs.Codes as staircase
 use Rattle.ldpc.specs.Code174 as code174
 use Rattle.belief.specs.Rounds.{Decode}
 

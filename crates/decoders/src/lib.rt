@@ -5,7 +5,7 @@ ghost use mathlib.Core.Path.{_≡_};
 ghost use mathlib.Core.List.{List, [], _∷_};
 ghost use Prim.Native.Nat.{_+_, _≤_, _<_};
 ghost use lib.ListN.{length};
-ghost use Rattle.ldpc_codes.specs.Codes.{codeOf};
+ghost use Rattle.staircase.specs.Codes.{codeOf};
 ghost use Rattle.belief.specs.Chosen.{Chose};
 ghost use Rattle.belief.specs.Rounds.{chosenCount, chosenBits};
 ghost use Rattle.belief.specs.Graph.{cleared};

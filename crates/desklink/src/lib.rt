@@ -19,7 +19,7 @@ ghost use Rattle.tanner.specs.Checks.{countBytes};
 ghost use Rattle.ldpc.specs.Calls as ldpc·calls;
 ghost use Rattle.ldpc.specs.Code174.{checks};
 ghost use Rattle.ldpc.specs.Encoding.{codewordOf};
-ghost use Rattle.ldpc_codes.specs.Codes.{codeOf};
+ghost use Rattle.staircase.specs.Codes.{codeOf};
 ghost use Rattle.ldpc_codes.specs.Calls as staircase·calls;
 ghost use Rattle.belief.specs.Rounds.{chosenCount, chosenBits};
 ghost use Rattle.belief.specs.Graph.{cleared};

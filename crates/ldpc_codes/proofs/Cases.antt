@@ -15,13 +15,13 @@ use Rattle.construction.specs.Columns.{times, holds}
 use Rattle.tanner.specs.Checks.{Word, Checks, parity, count, lowBits}
 use Rattle.tanner.specs.Flat.{joined}
 use Rattle.tanner.proofs.Count.{low-at}
-use Rattle.ldpc_codes.specs.Staircase.{taps, parityEntries, checkRow, checkRows}
+use Rattle.staircase.specs.Staircase.{taps, parityEntries, checkRow, checkRows}
 use Rattle.ldpc_codes.specs.Calls.{weightBy}
-use Rattle.ldpc_codes.specs.Codes.{codeOf, checks}
-use Rattle.ldpc_codes.proofs.Rows.{threes, rows0, rows1, rows2}
-use Rattle.ldpc_codes.proofs.N512R12.{checkBits0, check-bits-right0, checks-right0}
-use Rattle.ldpc_codes.proofs.N576R23.{checkBits1, check-bits-right1, checks-right1}
-use Rattle.ldpc_codes.proofs.N512R34.{checkBits2, check-bits-right2, checks-right2}
+use Rattle.staircase.specs.Codes.{codeOf, checks}
+use Rattle.staircase.proofs.Rows.{threes, rows0, rows1, rows2}
+use Rattle.staircase.proofs.N512R12.{checkBits0, check-bits-right0, checks-right0}
+use Rattle.staircase.proofs.N576R23.{checkBits1, check-bits-right1, checks-right1}
+use Rattle.staircase.proofs.N512R34.{checkBits2, check-bits-right2, checks-right2}
 
 -- the byte x at place p, with q zeros after it
 abbrev pub alone : ℕ → ℕ → ℕ → List ℕ
@@ -140,8 +140,3 @@ cases2 = record {
 -- every (P) case of the staircase count
 pub staircase-cases : Cases 0 256 256 × (Cases 1 384 192 × Cases 2 384 128)
 staircase-cases = (cases0, (cases1, cases2))
-
--- "Edges number 3K + 2M - 1: 1,279, 1,535 and 1,407"
-pub edge-numbers : (length (joined (checks (codeOf 0))) ≡ 1279) × ((length (joined (checks (codeOf 1))) ≡ 1535) × (length (joined (checks (codeOf 2))) ≡ 1407))
-unfolding checkBits0 checkBits1 checkBits2
-edge-numbers = (sym (ap length check-bits-right0), (sym (ap length check-bits-right1), sym (ap length check-bits-right2)))

@@ -13,7 +13,7 @@ use Rattle.construction.specs.Columns.{holds}
 use Rattle.tanner.specs.Checks.{Word, Checks, parity, count, countMasked, lowBits}
 use Rattle.tanner.specs.Flat.{Below, joined}
 use Rattle.tanner.proofs.Count.{parity-bit, parity-front, low-count, low-at, bits-low}
-use Rattle.ldpc_codes.specs.Staircase.{taps, parityEntries, checkRow, checkRows, checksOf, parityBits, encoded}
+use Rattle.staircase.specs.Staircase.{taps, parityEntries, checkRow, checkRows, checksOf, parityBits, encoded}
 use Rattle.ldpc_codes.specs.Calls.{filled}
 
 -- ---- the parity of one row

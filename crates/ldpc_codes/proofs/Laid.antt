@@ -19,9 +19,10 @@ use Rattle.tanner.specs.Flat.{joined, offsets, cut, rowsFrom, rowsOf, Below, Wi
 use Rattle.tanner.proofs.Count.{low-count, count-front}
 use Rattle.tanner.proofs.Flat.{rows-laid, flat-checks, all-below}
 use Rattle.tanner.proofs.Steps.{rows-more, rows-done}
-use Rattle.ldpc_codes.specs.Staircase.{checksOf, encoded}
-use Rattle.ldpc_codes.specs.Codes.{columns, checks}
+use Rattle.staircase.specs.Staircase.{checksOf, encoded}
+use Rattle.staircase.specs.Codes.{columns, checks}
 use Rattle.ldpc_codes.specs.Calls.{filled, lengthRefusals, shortRefusals}
+use Rattle.staircase.proofs.EdgeCount.{columns-length}
 use Rattle.ldpc_codes.proofs.Codewords.{checks-length, checks-below, fill-all}
 
 -- ---- the copy of the message
@@ -102,15 +103,6 @@ unfolding Below
 flat-longer h flat = record { some = flat .some; few = flat .few; within = flat .within; low = λ k l. omega (arith, flat .low k l) }
 
 -- ---- a code whose checks lie in the tables
-made-length : (k m seed : ℕ) → length (made k m seed .columns) ≡ k
-unfolding made nextColumn finished
-made-length zero m seed = refl
-made-length (suc k) m seed = ap suc (made-length k m seed)
-
-pub columns-length : (c : Code) → length (columns c) ≡ c .k
-unfolding columns
-columns-length c = length-reverse (made (c .k) (c .m) (c .seed) .columns) ∙ made-length (c .k) (c .m) (c .seed)
-
 low-take : (n : ℕ) (bytes : List ℕ) → lowBits (take n bytes) ≡ take n (lowBits bytes)
 unfolding lowBits
 low-take zero bytes = refl

@@ -1,8 +1,3 @@
-pub mod Rows
-pub mod N512R12
-pub mod N576R23
-pub mod N512R34
 pub mod Codewords
 pub mod Laid
 pub mod Cases
-pub mod EdgeCount

@@ -9,8 +9,8 @@ use Rattle.refusal.specs.Numbers.{numberOf}
 use Rattle.construction.specs.Codes.{Code}
 use Rattle.tanner.specs.Checks.{Checks, count, countMasked, lowBits}
 use Rattle.tanner.specs.Flat.{rowsOf}
-use Rattle.ldpc_codes.specs.Staircase.{encoded}
-use Rattle.ldpc_codes.specs.Codes.{codeOf, columns, checks}
+use Rattle.staircase.specs.Staircase.{encoded}
+use Rattle.staircase.specs.Codes.{codeOf, columns, checks}
 use Rattle.ldpc_codes.specs.declared.Encoding.{Encoding}
 use Rattle.ldpc_codes.specs.declared.Encoding.the-variants.{Written, Refused}
 use Rattle.ldpc_codes.specs.declared.Weight.{Weight}

@@ -1,16 +1,14 @@
 // The staircase codes: encoding and counting, over tables that are proved to be what the construction gives.
-pub mod tables;
-
 use construction::codes::N512R12;
 use construction::codes::N512R34;
 use construction::codes::N576R23;
 use refusal::Refusal;
-use tables::N512R12_CHECK_BITS;
-use tables::N512R12_CHECK_STARTS;
-use tables::N512R34_CHECK_BITS;
-use tables::N512R34_CHECK_STARTS;
-use tables::N576R23_CHECK_BITS;
-use tables::N576R23_CHECK_STARTS;
+use staircase::tables::N512R12_CHECK_BITS;
+use staircase::tables::N512R12_CHECK_STARTS;
+use staircase::tables::N512R34_CHECK_BITS;
+use staircase::tables::N512R34_CHECK_STARTS;
+use staircase::tables::N576R23_CHECK_BITS;
+use staircase::tables::N576R23_CHECK_STARTS;
 ghost use mathlib.Core.Path.{_≡_};
 ghost use mathlib.Core.List.{List, [], _∷_, _++_};
 ghost use Prim.Native.Nat.{ℕ, _+_, _-_, _≤_, _<_};

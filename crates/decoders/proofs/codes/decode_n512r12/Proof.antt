@@ -4,8 +4,8 @@ use native.Mathlib.Omega.{arith}
 use Rattle.softmath.specs.declared.SumKind.the-variants.{Total}
 use Rattle.construction.specs.Codes.{n512r12}
 use Rattle.belief.proofs.Laid.{chose-laid}
-use Rattle.ldpc_codes.specs.Codes.{checks}
-use Rattle.ldpc_codes.proofs.N512R12.{checkStarts0, checkBits0, edgeStarts0, edges0, check-starts-right0, check-bits-right0, edge-starts-right0, edges-right0}
+use Rattle.staircase.specs.Codes.{checks}
+use Rattle.staircase.proofs.N512R12.{checkStarts0, checkBits0, edgeStarts0, edges0, check-starts-right0, check-bits-right0, edge-starts-right0, edges-right0}
 use Rattle.decoders.proofs.Graphs.{staircase-graph}
 use borrow.Author.Needs.{needs}
 use Rattle.decoders.proofs.codes.decode_n512r12.Statement.{statement}

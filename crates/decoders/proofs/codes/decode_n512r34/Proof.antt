@@ -4,8 +4,8 @@ use native.Mathlib.Omega.{arith}
 use Rattle.softmath.specs.declared.SumKind.the-variants.{Total}
 use Rattle.construction.specs.Codes.{n512r34}
 use Rattle.belief.proofs.Laid.{chose-laid}
-use Rattle.ldpc_codes.specs.Codes.{checks}
-use Rattle.ldpc_codes.proofs.N512R34.{checkStarts2, checkBits2, edgeStarts2, edges2, check-starts-right2, check-bits-right2, edge-starts-right2, edges-right2}
+use Rattle.staircase.specs.Codes.{checks}
+use Rattle.staircase.proofs.N512R34.{checkStarts2, checkBits2, edgeStarts2, edges2, check-starts-right2, check-bits-right2, edge-starts-right2, edges-right2}
 use Rattle.decoders.proofs.Graphs.{staircase-graph}
 use borrow.Author.Needs.{needs}
 use Rattle.decoders.proofs.codes.decode_n512r34.Statement.{statement}

@@ -4,8 +4,8 @@ use native.Mathlib.Omega.{arith}
 use Rattle.softmath.specs.declared.SumKind.the-variants.{Total}
 use Rattle.construction.specs.Codes.{n576r23}
 use Rattle.belief.proofs.Laid.{chose-laid}
-use Rattle.ldpc_codes.specs.Codes.{checks}
-use Rattle.ldpc_codes.proofs.N576R23.{checkStarts1, checkBits1, edgeStarts1, edges1, check-starts-right1, check-bits-right1, edge-starts-right1, edges-right1}
+use Rattle.staircase.specs.Codes.{checks}
+use Rattle.staircase.proofs.N576R23.{checkStarts1, checkBits1, edgeStarts1, edges1, check-starts-right1, check-bits-right1, edge-starts-right1, edges-right1}
 use Rattle.decoders.proofs.Graphs.{staircase-graph}
 use borrow.Author.Needs.{needs}
 use Rattle.decoders.proofs.codes.decode_n576r23.Statement.{statement}

@@ -1,17 +1,20 @@
--- A staircase code with K message columns, each in three different rows, and M rows has 3K + 2M - 1 edges, for any K and M.
+-- A staircase code has 3K + 2M - 1 edges, for any K and seed and any M from 3 on: each column lies in three different rows (`columns-regular`).
 -- The rows' lengths are added up: each column adds one to each of its rows, and each row has two parity entries but row 0, which has one.
 use mathlib.Core.Path.{_≡_, refl, sym, ap, _∙_}
 use mathlib.Core.Bool.{Bool, true, false, cond, _||_}
-use mathlib.Core.List.{List, [], _∷_, _++_}
+use mathlib.Core.List.{List, [], _∷_, _++_, reverse, reverse-cons}
 use Prim.Native.Nat.{ℕ, zero, suc, _+_, _-_, _*_, _≤_, _<_}
 use native.Mathlib.Omega.{arith}
 use borrow.Author.Tests.{ne-eqb, eqb-true, eqb-false}
 use lib.Arith.{lt-of-le-ne}
 use lib.Dec.{eqb}
-use lib.ListN.{length, length-append}
-use Rattle.construction.specs.Columns.{holds, times}
+use lib.ListN.{length, length-append, length-reverse}
+use Rattle.construction.specs.Columns.{holds, times, made, nextColumn, finished}
+use Rattle.construction.specs.Codes.{Code}
+use Rattle.construction.proofs.Regular.{InRows, Regular, none, more, columns-regular}
 use Rattle.tanner.specs.Flat.{joined}
-use Rattle.ldpc_codes.specs.Staircase.{taps, parityEntries, checkRow, checkRows, checksOf}
+use Rattle.staircase.specs.Staircase.{taps, parityEntries, checkRow, checkRows}
+use Rattle.staircase.specs.Codes.{codeOf, columns, checks}
 
 -- the sum of f over n rows from i on
 sumFrom : (ℕ → ℕ) → ℕ → ℕ → ℕ
@@ -64,21 +67,12 @@ held-once [] r h = refl
 held-once (x ∷ xs) r h = held-if xs r (eqb x r) (held-once xs r (omega arith)) h
 
 -- ---- what a column adds to the rows
--- each of the rows is below m
-unfoldable pub InRows : ℕ → List ℕ → Type 0
-InRows m [] = Unit
-InRows m (x ∷ xs) = (x < m) × InRows m xs
-
 sum-times : (m : ℕ) (c : List ℕ) → InRows m c → sumFrom (times c) 0 m ≡ length c
 unfolding InRows
 sum-times m [] low = sum-zero (times []) times-none m 0
 sum-times m (x ∷ xs) low = sum-add (at-row x) (times xs) (times (x ∷ xs)) (times-more x xs) m 0 ∙ omega (arith, one-row x m 0 (omega arith) (omega (arith, low .0)), sum-times m xs (low .1))
 
--- ---- columns whose rows are three, different and below m
-pub data Regular (m : ℕ) : List (List ℕ) → Type 0 where
-  none : Regular m []
-  more : {c : List ℕ} {cs : List (List ℕ)} → length c ≡ 3 → ((r : ℕ) → times c r ≤ 1) → InRows m c → Regular m cs → Regular m (c ∷ cs)
-
+-- ---- what all columns add
 -- how many of the columns hold row r
 tapCount : List (List ℕ) → ℕ → ℕ
 tapCount [] r = 0
@@ -130,9 +124,32 @@ unfolding sumFrom entryCount
 sum-entries zero h = absurd (omega arith)
 sum-entries (suc m) h = omega (arith, later-entries m 0)
 
+-- ---- the codes' columns, in order
+regular-append : (m : ℕ) {xs ys : List (List ℕ)} → Regular m xs → Regular m ys → Regular m (xs ++ ys)
+regular-append m none q = q
+regular-append m (more three once low rest) q = more three once low (regular-append m rest q)
+
+regular-reverse : (m : ℕ) {cs : List (List ℕ)} → Regular m cs → Regular m (reverse cs)
+regular-reverse m none = none
+regular-reverse m (more {c = c} {cs = cs} three once low rest) = rw (reverse-cons c cs) (regular-append m (regular-reverse m rest) (more three once low none))
+
+made-length : (k m seed : ℕ) → length (made k m seed .columns) ≡ k
+unfolding made nextColumn finished
+made-length zero m seed = refl
+made-length (suc k) m seed = ap suc (made-length k m seed)
+
+pub columns-length : (c : Code) → length (columns c) ≡ c .k
+unfolding columns
+columns-length c = length-reverse (made (c .k) (c .m) (c .seed) .columns) ∙ made-length (c .k) (c .m) (c .seed)
+
 -- "Edges number 3K + 2M - 1"
-pub edge-count : (k m : ℕ) (cols : List (List ℕ)) → 0 < m → Regular m cols → length (joined (checksOf k m cols)) ≡ 3 * length cols + 2 * m - 1
-unfolding rowCount
-edge-count k m cols some regular =
-    joined-length k cols m 0 ∙ sum-add (tapCount cols) entryCount (rowCount cols) (λ r. refl) m 0
-    ∙ omega (arith, sum-taps m regular, sum-entries m some)
+pub edge-count : (c : Code) → 3 ≤ c .m → length (joined (checks c)) ≡ 3 * c .k + 2 * c .m - 1
+unfolding rowCount checks columns
+edge-count c some =
+    let regular = regular-reverse (c .m) (columns-regular (c .k) (c .m) (c .seed) some) in
+    joined-length (c .k) (columns c) (c .m) 0 ∙ sum-add (tapCount (columns c)) entryCount (rowCount (columns c)) (λ r. refl) (c .m) 0
+    ∙ omega (arith, sum-taps (c .m) regular, sum-entries (c .m) (omega arith), columns-length c)
+
+-- "1,279, 1,535 and 1,407"
+pub edge-numbers : (length (joined (checks (codeOf 0))) ≡ 1279) × ((length (joined (checks (codeOf 1))) ≡ 1535) × (length (joined (checks (codeOf 2))) ≡ 1407))
+edge-numbers = (edge-count (codeOf 0) (omega arith), (edge-count (codeOf 1) (omega arith), edge-count (codeOf 2) (omega arith)))

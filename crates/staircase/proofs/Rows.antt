@@ -1,4 +1,4 @@
--- The rows of each code's message columns, which are what the construction gives: its quick form, which agrees with the definition, is computed here.
+-- The rows of each code's message columns, which are what the construction gives, with no pick relaxed: its quick form, which agrees with the definition, is computed here.
 use mathlib.Core.Path.{_≡_, refl, sym, ap, _∙_}
 use mathlib.Core.List.{List, [], _∷_, reverse}
 use Prim.Native.Nat.{ℕ}
@@ -6,7 +6,7 @@ use native.Mathlib.Omega.{arith}
 use Rattle.construction.specs.Draw.{draw, xor, mixed}
 use Rattle.construction.specs.Columns.{Made, holds, settled, sorted, insert, upFrom, firstOutside, finished, made, rowsOf, laidBefore}
 use Rattle.construction.specs.Quick.{marked, markedIf, markedBy, marksOf, lessOf, met, scan, foundIn, quickSearch, quickPick, loaded, quickOnePick, quickPicks, quickFinished, quickColumn, quickColumns, quick}
-use Rattle.construction.specs.Codes.{n512r12, n576r23, n512r34, messageRows}
+use Rattle.construction.specs.Codes.{n512r12, n576r23, n512r34, messageRows, relaxedPicks}
 use Rattle.construction.proofs.Agree.{agree}
 
 -- a flat list cut into threes
@@ -50,9 +50,16 @@ rows0 =
     ∷ 0 ∷ 105 ∷ 240 ∷ 16 ∷ 151 ∷ 154 ∷ 88 ∷ 242 ∷ 243 ∷ 155 ∷ 207 ∷ 227 ∷ 1 ∷ 56 ∷ 194 ∷ 17 ∷ 64 ∷ 159 ∷ 63 ∷ 67 ∷ 69 ∷ 73 ∷ 160 ∷ 183 ∷ 74 ∷
     161 ∷ 195 ∷ 184 ∷ 185 ∷ 197 ∷ 79 ∷ 200 ∷ 201 ∷ 81 ∷ 84 ∷ 208 ∷ 85 ∷ 86 ∷ 89 ∷ []
 
-pub made-right0 : made 256 256 0x4c44504335313200 .columns ≡ reverse (threes rows0)
+made0 : made 256 256 0x4c44504335313200 ≡ record { state = 0xac0ce9660e6b49ae; columns = reverse (threes rows0); relaxed = 0 }
 unfolding draw xor mixed holds settled sorted insert upFrom firstOutside marked markedIf markedBy marksOf lessOf met scan foundIn quickSearch quickPick loaded quickFinished finished quickOnePick quickPicks quickColumn quickColumns quick rows0 threes
-made-right0 = sym (ap (λ (g : Made). g .columns) (agree 256 256 0x4c44504335313200 (omega arith))) ∙ refl
+made0 = sym (agree 256 256 0x4c44504335313200 (omega arith)) ∙ refl
+
+pub made-right0 : made 256 256 0x4c44504335313200 .columns ≡ reverse (threes rows0)
+made-right0 = ap (λ (g : Made). g .columns) made0
+
+-- no pick is relaxed
+pub no-relaxed0 : relaxedPicks n512r12 ≡ 0
+no-relaxed0 = ap (λ (g : Made). g .relaxed) made0
 
 pub rows-right0 : rows0 ≡ messageRows n512r12
 unfolding rowsOf laidBefore rows0 threes
@@ -106,9 +113,16 @@ rows1 =
     116 ∷ 164 ∷ 27 ∷ 165 ∷ 168 ∷ 87 ∷ 169 ∷ 170 ∷ 93 ∷ 174 ∷ 175 ∷ 35 ∷ 118 ∷ 177 ∷ 94 ∷ 117 ∷ 182 ∷ 97 ∷ 99 ∷ 105 ∷ 46 ∷ 122 ∷ 183 ∷ 106 ∷ 181
     ∷ 185 ∷ 4 ∷ 187 ∷ 190 ∷ 2 ∷ 3 ∷ 28 ∷ 30 ∷ 31 ∷ 36 ∷ 32 ∷ 37 ∷ 39 ∷ 40 ∷ 41 ∷ 42 ∷ 43 ∷ 44 ∷ 48 ∷ []
 
-pub made-right1 : made 384 192 0x4c44504335313201 .columns ≡ reverse (threes rows1)
+made1 : made 384 192 0x4c44504335313201 ≡ record { state = 0x6f57f175536488dd; columns = reverse (threes rows1); relaxed = 0 }
 unfolding draw xor mixed holds settled sorted insert upFrom firstOutside marked markedIf markedBy marksOf lessOf met scan foundIn quickSearch quickPick loaded quickFinished finished quickOnePick quickPicks quickColumn quickColumns quick rows1 threes
-made-right1 = sym (ap (λ (g : Made). g .columns) (agree 384 192 0x4c44504335313201 (omega arith))) ∙ refl
+made1 = sym (agree 384 192 0x4c44504335313201 (omega arith)) ∙ refl
+
+pub made-right1 : made 384 192 0x4c44504335313201 .columns ≡ reverse (threes rows1)
+made-right1 = ap (λ (g : Made). g .columns) made1
+
+-- no pick is relaxed
+pub no-relaxed1 : relaxedPicks n576r23 ≡ 0
+no-relaxed1 = ap (λ (g : Made). g .relaxed) made1
 
 pub rows-right1 : rows1 ≡ messageRows n576r23
 unfolding rowsOf laidBefore rows1 threes
@@ -160,9 +174,16 @@ rows2 =
     5 ∷ 23 ∷ 37 ∷ 99 ∷ 103 ∷ 117 ∷ 6 ∷ 57 ∷ 63 ∷ 8 ∷ 106 ∷ 113 ∷ 26 ∷ 108 ∷ 118 ∷ 4 ∷ 38 ∷ 62 ∷ 64 ∷ 89 ∷ 109 ∷ 65 ∷ 67 ∷ 111 ∷ 42 ∷ 43 ∷ 124 ∷
     44 ∷ 70 ∷ 76 ∷ 45 ∷ 77 ∷ 78 ∷ 79 ∷ 80 ∷ 84 ∷ []
 
-pub made-right2 : made 384 128 0x4c44504335313202 .columns ≡ reverse (threes rows2)
+made2 : made 384 128 0x4c44504335313202 ≡ record { state = 0x7ea06dcb05136954; columns = reverse (threes rows2); relaxed = 0 }
 unfolding draw xor mixed holds settled sorted insert upFrom firstOutside marked markedIf markedBy marksOf lessOf met scan foundIn quickSearch quickPick loaded quickFinished finished quickOnePick quickPicks quickColumn quickColumns quick rows2 threes
-made-right2 = sym (ap (λ (g : Made). g .columns) (agree 384 128 0x4c44504335313202 (omega arith))) ∙ refl
+made2 = sym (agree 384 128 0x4c44504335313202 (omega arith)) ∙ refl
+
+pub made-right2 : made 384 128 0x4c44504335313202 .columns ≡ reverse (threes rows2)
+made-right2 = ap (λ (g : Made). g .columns) made2
+
+-- no pick is relaxed
+pub no-relaxed2 : relaxedPicks n512r34 ≡ 0
+no-relaxed2 = ap (λ (g : Made). g .relaxed) made2
 
 pub rows-right2 : rows2 ≡ messageRows n512r34
 unfolding rowsOf laidBefore rows2 threes

@@ -5,9 +5,9 @@ use Prim.Native.Nat.{ℕ}
 use Rattle.construction.specs.Columns.{holds}
 use Rattle.construction.specs.Codes.{n512r34}
 use Rattle.tanner.specs.Flat.{joined, ends, offsets, places, edgesFrom, bitEdges}
-use Rattle.ldpc_codes.specs.Staircase.{taps, parityEntries, checkRow, checkRows}
-use Rattle.ldpc_codes.specs.Codes.{columns, checks}
-use Rattle.ldpc_codes.proofs.Rows.{threes, rows2, made-right2}
+use Rattle.staircase.specs.Staircase.{taps, parityEntries, checkRow, checkRows}
+use Rattle.staircase.specs.Codes.{columns, checks}
+use Rattle.staircase.proofs.Rows.{threes, rows2, made-right2}
 
 unfoldable pub checkStarts2 : List ℕ
 checkStarts2 =

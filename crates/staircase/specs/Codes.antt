@@ -4,7 +4,7 @@ use Prim.Native.Nat.{ℕ, zero, suc}
 use Rattle.construction.specs.Columns.{made}
 use Rattle.construction.specs.Codes.{Code, n512r12, n576r23, n512r34}
 use Rattle.tanner.specs.Checks.{Checks}
-use Rattle.ldpc_codes.specs.Staircase.{checksOf}
+use Rattle.staircase.specs.Staircase.{checksOf}
 
 -- "Number 0 is `N512R12`, 1 is `N576R23`, 2 is `N512R34`" (any other number is refused)
 abbrev pub codeOf : ℕ → Code
