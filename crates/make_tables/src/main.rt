@@ -1,4 +1,4 @@
-// Prints the tables of the staircase codes from the construction: the text of crates/ldpc_codes/src/tables.rt below its first line.
+// Prints the tables of the staircase codes from the construction: the text of crates/staircase/src/tables.rt below its first line.
 ghost use Prim.Native.Nat.{_<_};
 use construction::codes::N512R12;
 use construction::codes::N512R34;
