@@ -41,7 +41,7 @@ use Rattle.generator.specs.Draw.{draw}
 use Rattle.generator.specs.declared.Xorshift.{Xorshift}
 use Rattle.generator.proofs.Xorshift as T
 use Rattle.generator.proofs.Xorshift.Laws as T′
-use Rattle.generator.proofs.Lent.{holding, machine}
+use Rattle.generator.proofs.Cell.{holding, machine}
 use Rattle.generator.proofs.draw as drawing
 use Rattle.generator.proofs.draw.Symbol as draw-def
 use Rattle.generator.proofs.draw.Symbol.{name as #generator·draw}
@@ -93,7 +93,7 @@ module _ {M : Type 1} (𝓤 : URA M) (H : Heap 𝓤) (A : Atoms 𝓤) (W : Given
         move ! (9 ∷ []) $ fsplit ! $ fsplit3 ! $ drop ! $ move ! (11 ∷ []) $ split ! $ move ! (2 ∷ 3 ∷ 0 ∷ []) $
         opens ! tt T.the-row {h = holding n} b o (λ vs. spelt ! T.the-row (Is T.the-row) (shows 𝓤 H A T.the-row) (LL.vals T.the-type T′.the-laws) (LL.tells T.the-type T′.the-laws) fullShare (holding n) vs b o $
         move ! (1 ∷ []) $ peeks ! T.the-row (Is T.the-row) (shows 𝓤 H A T.the-row) (holding n) (machine n ∷ []) (λ g. move ! (1 ∷ 0 ∷ []) $
-        -- [the struct's cell; what it owns; the open borrow; obs; auth; true; true; _3; …; _2; …; _1; …; room for _0; …]
+        -- held: the generator's cell, that its value is a generator, four parts of the open borrow and its truths, then from 7 on the locals _3, _2, _1, _0, each before its end
         assigns ! (of-opd ! (load ! (from ! (hop ! (look ! 11 refl) (fld ! refl (stop !)))) (look-in ! 0 (sub ! 0 refl (whole !))))) (from ! (stop !)) (init ! 7 refl (tt, record { fits = g .1 .1 .0 .1 })) $
         use0 W (raw (Draw 𝓤 H A at-mem run .pre to-draw)) (goes-draw (g .1 .1 .0 .1)) $
         calls-at ! fm (Draw 𝓤 H A at-mem run) known to-draw (and-then ! (load ! (from ! (stop !)) (look ! 8 refl)) (no-more !)) (λ v.
@@ -104,7 +104,7 @@ module _ {M : Type 1} (𝓤 : URA M) (H : Heap 𝓤) (A : Atoms 𝓤) (W : Given
         assigns ! (of-opd ! (load ! (from ! (stop !)) (look ! 9 refl))) (from ! (hop ! (look ! 11 refl) (fld ! refl (stop !)))) (store-in ! 0 (sub ! 0 refl (whole !)) (tt, record { fits = is .1 })) $
         assigns ! (of-opd ! (load ! (from ! (stop !)) (look ! 9 refl))) (from ! (stop !)) (init ! 13 refl (tt, record { fits = is .1 })) $
         move ! (1 ∷ []) $ drop ! $ owned ! T.the-row (Is T.the-row) ((LL.makes T.the-type T′.the-plain) 𝓤 H A) (holding r) _ (LL.owes T.the-type T′.the-laws (holding r) ((refl, is .1), tt)) $ move ! (1 ∷ 0 ∷ []) $ closes ! tt T.the-row (holding r) (machine r ∷ []) b o $
-        -- [obs; the borrow; the token; true; true; _3; …; _2; …; _1; …; _0; …]
+        -- held: the last value seen, the closed borrow, the lifetime's token, two truths, then from 5 on the locals _3, _2, _1, _0, each before its end
         returns ! (look ! 11 refl) $ forget ! 5 refl $ forget ! 7 refl $ forget ! 9 refl $ forget ! 11 refl $
         move ! (11 ∷ 12 ∷ []) $ free1 ! $ move ! (9 ∷ 10 ∷ []) $ free1 ! $ move ! (7 ∷ 8 ∷ []) $ free1 ! $ move ! (5 ∷ 6 ∷ []) $ free1 ! $ free0 ! $
         keep ! (0 ∷ 1 ∷ 2 ∷ []) $ by ! (exits r (is .1) e)))))))))))
