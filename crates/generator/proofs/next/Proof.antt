@@ -93,7 +93,7 @@ module _ {M : Type 1} (𝓤 : URA M) (H : Heap 𝓤) (A : Atoms 𝓤) (W : Given
         move ! (9 ∷ []) $ fsplit ! $ fsplit3 ! $ drop ! $ move ! (11 ∷ []) $ split ! $ move ! (2 ∷ 3 ∷ 0 ∷ []) $
         opens ! tt T.the-row {h = holding n} b o (λ vs. spelt ! T.the-row (Is T.the-row) (shows 𝓤 H A T.the-row) (LL.vals T.the-type T′.the-laws) (LL.tells T.the-type T′.the-laws) fullShare (holding n) vs b o $
         move ! (1 ∷ []) $ peeks ! T.the-row (Is T.the-row) (shows 𝓤 H A T.the-row) (holding n) (machine n ∷ []) (λ g. move ! (1 ∷ 0 ∷ []) $
-        -- held: the generator's cell, that its value is a generator, four parts of the open borrow and its truths, then from 7 on the locals _3, _2, _1, _0, each before its end
+        -- held: the generator's cell, that its value is a generator, the open borrow with what is seen and what is set of it, two truths, then from 7 on the locals _3, _2, _1, _0, each before its end
         assigns ! (of-opd ! (load ! (from ! (hop ! (look ! 11 refl) (fld ! refl (stop !)))) (look-in ! 0 (sub ! 0 refl (whole !))))) (from ! (stop !)) (init ! 7 refl (tt, record { fits = g .1 .1 .0 .1 })) $
         use0 W (raw (Draw 𝓤 H A at-mem run .pre to-draw)) (goes-draw (g .1 .1 .0 .1)) $
         calls-at ! fm (Draw 𝓤 H A at-mem run) known to-draw (and-then ! (load ! (from ! (stop !)) (look ! 8 refl)) (no-more !)) (λ v.
