@@ -9,7 +9,7 @@ use native.Mathlib.Omega.{arith}
 use lib.Dec.{leb, ltb, eqb, eqb·suc-zero}
 use lib.ListN.{length, getD, set, take, drop, replicate, length-set, length-take, length-drop, length-replicate, getD-replicate}
 use lib.Seq.{getD-take, getD-drop, length-take-le}
-use Rattle.construction.specs.Draw.{draw}
+use Rattle.generator.specs.Draw.{draw}
 use Rattle.construction.specs.Columns.{Found, row, nothing, Picks, Made, holds, together, skipped, times, load, leastOf, search, settled, upFrom, pick, onePick, picks, insert, sorted, finished, nextColumn, made, rowsOf, laidBefore}
 use Rattle.construction.specs.Quick.{marked, markedIf, markedBy, marksOf, Best, best, none, lessOf, met, scan, foundIn, quickSearch, quickPick, loaded, Kept, quickOnePick, quickPicks, quickFinished, quickColumn, quickColumns, quick}
 use Rattle.construction.specs.Tables.{metRow, metRows, loadAt, flagAt, Flags, Loads}

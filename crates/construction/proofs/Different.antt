@@ -11,7 +11,7 @@ use borrow.Author.Tests.{eq-eqb, ne-eqb, eqb-true, eqb-false}
 use lib.Dec.{ltb, eqb}
 use lib.Arith.{lt-of-le-ne}
 use lib.ListN.{length, length-append}
-use Rattle.construction.specs.Draw.{draw}
+use Rattle.generator.specs.Draw.{draw}
 use Rattle.construction.specs.Columns.{Found, row, nothing, Choice, upFrom, onceRound, holds, together, skipped, load, without, leastOf, firstLeast, search, firstOutside, settled, pick, onePick, picks, times}
 use Rattle.construction.proofs.Columns.{holds-append}
 

@@ -1,4 +1,3 @@
-pub mod Bits
 pub mod Searches
 pub mod Columns
 pub mod Marks

@@ -11,7 +11,7 @@ use native.Mathlib.Decide.{decLt}
 use lib.Dec.{ltb, eqb}
 use lib.ListN.{length, getD, set, take, drop, length-set, length-take, length-drop, replicate, getD-replicate, length-replicate}
 use lib.Seq.{take-set-le, take-take, take-suc, take-add, getD-take, getD-drop, getD-set-same, getD-set-other, take-nil, drop-set-add, take-suc-set}
-use Rattle.construction.specs.Draw.{draw}
+use Rattle.generator.specs.Draw.{draw}
 use Rattle.construction.specs.Columns.{Found, row, nothing, Choice, upFrom, search, leastOf, settled, pick, onePick, picks, skipped, load, together, times}
 use Rattle.construction.specs.Tables.{metRow, metRows, Below, loadAt, flagAt, columnAt, columnsIn, AllBelow, AllMarked, Flags, Loads, Loaded, Room, Ready, Placed, Picked}
 use Rattle.construction.proofs.Searches.{met-round}

@@ -4,7 +4,7 @@ use mathlib.Core.Bool.{Bool, true, false, cond, not, _&&_, _||_}
 use mathlib.Core.List.{List, [], _∷_, _++_}
 use Prim.Native.Nat.{ℕ, zero, suc, _+_, _-_, _%_}
 use lib.Dec.{leb, ltb, eqb}
-use Rattle.construction.specs.Draw.{draw}
+use Rattle.generator.specs.Draw.{draw}
 
 -- "The search yields a row or nothing"
 pub data Found : Type 0 where

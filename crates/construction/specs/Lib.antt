@@ -1,4 +1,3 @@
-pub mod Draw
 pub mod Columns
 pub mod Quick
 pub mod Tables

@@ -6,7 +6,7 @@ use Prim.Native.Nat.{ℕ, zero, suc, _+_, _*_, _≤_, _<_}
 use lib.Dec.{eqb, ltb}
 use lib.ListN.{length, getD, set, take, drop}
 use Rattle.construction.specs.Columns.{Found, row, nothing, Choice, holds, together, times, load, leastOf, skipped, pick, picks, sorted}
-use Rattle.construction.specs.Draw.{draw}
+use Rattle.generator.specs.Draw.{draw}
 use Rattle.construction.specs.declared.Taken.{Taken}
 use Rattle.construction.specs.declared.Pick.{Pick}
 use Rattle.construction.specs.declared.Pick.the-variants.{Row, Nothing}

@@ -6,26 +6,8 @@ ghost use mathlib.Core.Bool.{Bool, true, false};
 ghost use mathlib.Core.List.{List, [], _∷_, _++_};
 ghost use Prim.Native.Nat.{ℕ, _+_, _-_, _*_, _/_, _%_, _^_, _≤_, _<_};
 ghost use lib.ListN.{length, getD, take, drop, replicate, set};
-ghost use Rattle.construction.specs.Draw.{left, draw};
 ghost use Rattle.construction.specs.Columns.{holds, upFrom, onceRound, search, firstOutside, settled, pick, Choice, picks, made, rowsOf, sorted, skipped};
 ghost use Rattle.construction.specs.Tables.{foundOf, metRow, metRows, Unbeaten, Below, loadAt, flagAt, columnAt, columnsIn, AllBelow, Marked, MarkedWith, AllMarked, Flags, Loads, Loaded, Room, Ready, Placed, Picked, ColumnMade, choiceOf};
-
-// The left shift that drops whatever passes bit 63.
-fn shift_left(x: u64, n: u32) -> u64
-    requires { ⌜ n < 64 ⌝ }
-    ensures { λ r. ⌜ r ≡ left n x ⌝ }
-{
-    x << n
-}
-
-// One draw: the generator's next state.
-pub fn draw(state: u64) -> u64
-    ensures { λ r. ⌜ r ≡ draw state ⌝ }
-{
-    let a = state ^ shift_left(state, 13);
-    let b = a ^ (a >> 7);
-    b ^ shift_left(b, 17)
-}
 
 // What a search yields.
 pub enum Pick {
@@ -280,7 +262,7 @@ fn place(rows: &mut [u16], n: usize, t: usize, loads: &[u16], marks: &mut [u8], 
 {
     let at = 3 * n;
     let end = at + t;
-    let drawn = draw(state);
+    let drawn = generator::next_by_value(state);
     let taken = pick_row(loads, marks, &rows[at..end], drawn);
     let row = taken.row;
     mark_together(marks, rows, n, row);

@@ -7,7 +7,7 @@ use Rattle.construction.proofs.place.Statement.{statement}
 use Rattle.construction.proofs.place.Tie as tie
 use Rattle.construction.proofs.place.Reads as reads
 use Rattle.construction.proofs.place.Lts as lts
-use Rattle.construction.proofs.draw.Reads as draw-reads
+use Rattle.generator.proofs.next_by_value.Reads as next-by-value-reads
 use Rattle.construction.proofs.mark_together.Reads as mark-together-reads
 use Rattle.construction.proofs.pick_row.Reads as pick-row-reads
 
@@ -17,8 +17,8 @@ mul-at c = search needs
 add-end : tie.Need-add-end
 add-end c = search needs
 
-draw-requires : tie.Need-draw-requires
-draw-requires c κs = search needs
+next-by-value-requires : tie.Need-next-by-value-requires
+next-by-value-requires c κs = search needs
 
 mul-pick-row : tie.Need-mul-pick-row
 mul-pick-row c = search needs
@@ -54,7 +54,7 @@ same-length-2 : tie.Need-same-length-2
 same-length-2 c = search needs
 
 returns : tie.Need-returns
-returns c = let start = c .before .before .before .before .before .before .before .before .before .before .before .before .before in let p = c .before .before .before .before .before .pick-row in placed _ _ _ _ _ _ _ _ (choiceOf (p .result)) (start .pre .0) (start .pre .1 .1 .1) (c .before .before .before .before .before .before .before .before .before .draw .ensures) (p .ensures .0) (p .ensures .1 .0) (p .ensures .1 .1) (c .before .before .mark-together .kept .0) (c .before .before .mark-together .ensures)
+returns c = let start = c .before .before .before .before .before .before .before .before .before .before .before .before .before in let p = c .before .before .before .before .before .pick-row in placed _ _ _ _ _ _ _ _ (choiceOf (p .result)) (start .pre .0) (start .pre .1 .1 .1) (c .before .before .before .before .before .before .before .before .before .next-by-value .ensures) (p .ensures .0) (p .ensures .1 .0) (p .ensures .1 .1) (c .before .before .mark-together .kept .0) (c .before .before .mark-together .ensures)
 
 pub place-spec : {M : Type 1} → statement M
 place-spec =
@@ -62,7 +62,7 @@ place-spec =
     (tie.spec
     mul-at
     add-end
-    draw-requires
+    next-by-value-requires
     mul-pick-row
     sub-pick-row
     part-pick-row-start

@@ -4,7 +4,7 @@ use Prim.Native.Nat.{ℕ, zero, suc, _+_, _*_, _/_, _%_, _^_, _<_}
 use native.Mathlib.Nat.{pow-suc, add-mod, mod-lt}
 use native.Mathlib.Omega.{arith}
 use lib.Bits.{bitXor, differ, xor-step, xor-zero-l, xor-lt}
-use Rattle.construction.specs.Draw.{xor, left, right, mixed, draw}
+use Rattle.generator.specs.Draw.{xor, left, right, mixed, draw}
 
 differ-sum : (x y : ℕ) → x < 2 → y < 2 → differ x y ≡ (x + y) % 2
 differ-sum zero zero h k = refl

@@ -1,12 +1,12 @@
--- `construction::draw` meets its contract: the machine's exclusive ors are the definition's. Assumes nothing.
-use Rattle.construction.proofs.Bits.{draw-bits}
+-- `generator::draw` meets its contract: the machine's exclusive ors are the definition's. Assumes nothing.
+use Rattle.generator.proofs.Bits.{draw-bits}
 use native.Mathlib.Omega.{arith}
 use borrow.Author.Needs.{needs}
-use Rattle.construction.proofs.draw.Statement.{statement}
-use Rattle.construction.proofs.draw.Tie as tie
-use Rattle.construction.proofs.draw.Reads as reads
-use Rattle.construction.proofs.draw.Lts as lts
-use Rattle.construction.proofs.shift_left.Reads as shift-left-reads
+use Rattle.generator.proofs.draw.Statement.{statement}
+use Rattle.generator.proofs.draw.Tie as tie
+use Rattle.generator.proofs.draw.Reads as reads
+use Rattle.generator.proofs.draw.Lts as lts
+use Rattle.generator.proofs.shift_left.Reads as shift-left-reads
 
 -- src/lib.rt:23:21
 shift-left-requires : tie.Need-shift-left-requires
