@@ -1,11 +1,17 @@
--- The numbers of a lent list of pair records: each record's offset and length in turn.
+-- "a lent list of pair records, each an offset and a length": the records' numbers, and the pairs that they are.
 use Prim.Native.Nat.{ℕ, zero, suc}
 use mathlib.Core.List.{List, [], _∷_}
+use Rattle.batch.specs.Pairs as Named
 use Rattle.records.specs.declared.Pair.{Pair}
 
+-- the numbers, each record's offset and length in turn
 unfoldable pub fieldsOf : List Pair → List ℕ
 fieldsOf [] = []
 fieldsOf (p ∷ ps) = p .offset ∷ p .length ∷ fieldsOf ps
+
+-- the pair that a record is
+abbrev pub pairOf : Pair → Named.Pair
+pairOf p = record { offset = p .offset; size = p .length }
 
 -- a list of numbers with the first n records' fields in its first places
 unfoldable pub laid : ℕ → List Pair → List ℕ → List ℕ
