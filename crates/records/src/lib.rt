@@ -6,6 +6,7 @@ ghost use Rattle.refusal.specs.Outcome.{judged, kept};
 ghost use Rattle.belief.specs.Graph.{cleared};
 ghost use Rattle.batch.specs.Calls.{batchedOf, batchRefusals, batchBits, batchCounts};
 ghost use Rattle.records.specs.Fields.{fieldsOf, laid};
+ghost use Rattle.records.specs.Answered.{Answered};
 
 // A pair: where a frame's values begin, and how many they are.
 pub struct Pair {
@@ -51,10 +52,7 @@ fn decode_flat(
     work: &mut [f32],
 ) -> batch::Batched
     requires { ⌜ n * 2 ≤ length (now flat) ⌝ }
-    ensures { λ r. ⌜ batchedOf r ≡ judged (batchRefusals code rule (now (values .entry)) (take (n * 2) (now (flat .entry))) (now (bits .entry)) (now (counts .entry)) (now (work .entry))) tt ⌝ }
-    ensures { λ _. ⌜ now (bits .exit) ≡ kept (batchRefusals code rule (now (values .entry)) (take (n * 2) (now (flat .entry))) (now (bits .entry)) (now (counts .entry)) (now (work .entry))) (now (bits .entry)) (batchBits code rule scale limit (now (values .entry)) (take (n * 2) (now (flat .entry)))) ⌝ }
-    ensures { λ _. ⌜ now (counts .exit) ≡ kept (batchRefusals code rule (now (values .entry)) (take (n * 2) (now (flat .entry))) (now (bits .entry)) (now (counts .entry)) (now (work .entry))) (now (counts .entry)) (batchCounts code rule scale limit (now (values .entry)) (take (n * 2) (now (flat .entry)))) ⌝ }
-    ensures { λ _. ⌜ now (work .exit) ≡ kept (batchRefusals code rule (now (values .entry)) (take (n * 2) (now (flat .entry))) (now (bits .entry)) (now (counts .entry)) (now (work .entry))) (now (work .entry)) (cleared (now (work .entry))) ⌝ }
+    ensures { λ r. ⌜ Answered code rule limit scale (now (values .entry)) (take (n * 2) (now (flat .entry))) (now (bits .entry)) (now (counts .entry)) (now (work .entry)) r (now (bits .exit)) (now (counts .exit)) (now (work .exit)) ⌝ }
 {
     batch::decode_batch(
         code,
