@@ -17,7 +17,7 @@ use base.Logic.{SProp, ent, sep, ex}
 use base.Fml.{Lft, GName, Fml, fsep, fat, froom, fdead, flent}
 use prog.Wp.{Heap}
 use ghost.Atoms.{Atoms, sem}
-use types.Kit.{Given, ‵, some, later, _⊛_, _$_, _∵_, !, qed, by, move, keep, drop, use1, fsplit, fjoin, fpick, fpack, feqI, await, updating, now as at-once, done}
+use types.Kit.{Given, ‵, _$_, _∵_, !, qed, by, move, keep, drop, use1, fsplit, fjoin, fpick, fpack, feqI, updating, now as at-once, done}
 use types.Tokens.{lent-back}
 use types.SemTy.{cells, Arr}
 use types.Share.{arr-parts}
@@ -29,8 +29,7 @@ use denote.ArrayMemory.{array-apart, array-whole}
 use denote.Plain.{uint-vals, uint-tells, uint-makes, uint-lawful}
 use denote.Builtin.{u32}
 use denote.Index.{row, whole-out, whole-in}
-use denote.Lend.{Lent, LentShrs, lends-slice, lends-shr-slice}
-use denote.Ref.{RefT}
+use denote.Lend.{Lent, lends-slice, lends-shr-slice}
 use denote.Slice.{Room, ShrSlice, sliceVal}
 use denote.Steps.{owned}
 use denote.Struct.Steps.{spelt}

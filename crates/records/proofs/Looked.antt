@@ -1,5 +1,5 @@
 -- A batch of the first 25 records is answered as one of all of them: where there are more, refusals 1, 2 and 3 do not read the pairs, and 7 holds of both. By cases on the records' number. Assumes nothing.
-use mathlib.Core.Path.{_≡_, refl, sym, ap, subst, _∙_}
+use mathlib.Core.Path.{_≡_, refl, ap, subst, _∙_}
 use mathlib.Core.Bool.{Bool, true, false}
 use mathlib.Core.List.{List, [], _∷_, map}
 use Prim.Native.Nat.{ℕ, _*_, _<_, _≤_, min}
@@ -13,7 +13,7 @@ use lib.Seq.{length-take-le, take-all}
 use Rattle.refusal.specs.Outcome.{Outcome, judged, kept}
 use Rattle.batch.specs.declared.Batched.{Batched}
 use Rattle.batch.specs.Pairs.{pairsOf}
-use Rattle.batch.specs.Calls.{headRefusals, batchRefusals}
+use Rattle.batch.specs.Calls.{batchRefusals}
 use Rattle.records.specs.declared.Pair.{Pair}
 use Rattle.records.specs.Fields.{fieldsOf, pairOf, laid}
 use Rattle.records.specs.Answered.{Answered}

@@ -87,5 +87,16 @@ pub fn decode_pairs(
     let mut flat = [0u32; 50];
     let n = looked_at(pairs.len());
     flatten(pairs, n, &mut flat);
-    decode_flat(code, rule, limit, scale, values, &flat, n, bits, counts, work)
+    decode_flat(
+        code,
+        rule,
+        limit,
+        scale,
+        values,
+        &flat,
+        n,
+        bits,
+        counts,
+        work,
+    )
 }

@@ -9,7 +9,7 @@ use native.Mathlib.Nat.{add-zero, add-suc, zero-add, le-refl, lt-suc-self}
 use native.Mathlib.Omega.{arith}
 use mathlib.Core.Bool.{Bool}
 use mathlib.Core.List.{List, [], _∷_}
-use lib.Dec.{T as Holds, ltb, lit<}
+use lib.Dec.{T as Holds, lit<}
 use borrow.Author.Tests.{lt-ltb, le-ltb}
 use lib.ListN.{length, getD, set, length-set}
 use lib.WfN.{Nat·lt-wfRel}
@@ -21,7 +21,7 @@ use base.Logic.{SProp, ent, ex, guard, via, exI, exE, guardI, guardE}
 use base.Fml.{Lft, GName, Share, Fml, ftrue, fat, froom, fdies, flft, fres, fobs, fauth, fbor, fobor, fshr-bor}
 use prog.Memory.{Memory}
 use prog.Routine.{Routine}
-use prog.Wp.{Heap, Out, Env, afterSeq, afterBlock, afterTurn, Calls, Loops, Wp, atReturn, WpFn, Tables}
+use prog.Wp.{Heap, Out, Env, afterSeq, afterBlock, afterTurn, Wp, atReturn, WpFn, Tables}
 use ghost.Atoms.{Atoms}
 use contract.Monad.{Fun}
 use contract.Running.{givenOf, tables, tablesOf}
