@@ -2,7 +2,7 @@
 use mathlib.Core.Path.{_≡_, refl, ap, subst, _∙_}
 use mathlib.Core.Bool.{Bool, true, false}
 use mathlib.Core.List.{List, [], _∷_, map}
-use Prim.Native.Nat.{ℕ, _*_, _<_, _≤_, min}
+use Prim.Native.Nat.{ℕ, _*_, _<_, _≤_}
 use native.Mathlib.Nat.{min-eq-left, min-eq-right}
 use native.Mathlib.Omega.{arith}
 use borrow.Author.Tests.{ltb-true, ltb-false, lt-ltb}
@@ -15,7 +15,7 @@ use Rattle.batch.specs.declared.Batched.{Batched}
 use Rattle.batch.specs.Pairs.{pairsOf}
 use Rattle.batch.specs.Calls.{batchRefusals}
 use Rattle.records.specs.declared.Pair.{Pair}
-use Rattle.records.specs.Fields.{fieldsOf, pairOf, laid}
+use Rattle.records.specs.Fields.{fieldsOf, pairOf, most, lookedAt, laid}
 use Rattle.records.specs.Answered.{Answered}
 use Rattle.records.proofs.Fields.{take-laid}
 
@@ -27,6 +27,9 @@ pairs-of-fields (p ∷ ps) = ap (λ qs. pairOf p ∷ qs) (pairs-of-fields ps)
 
 how-many : (ps : List Pair) → length (pairsOf (fieldsOf ps)) ≡ length ps
 how-many ps = ap length (pairs-of-fields ps) ∙ length-map ps pairOf
+
+over : (ps : List Pair) → 24 < length ps → ltb 24 (length (pairsOf (fieldsOf ps))) ≡ true
+over ps h = ap (ltb 24) (how-many ps) ∙ lt-ltb 24 (length ps) h
 
 module _ (code rule limit : ℕ) (scale : Float) (values : List Float) (bits counts : List ℕ) (work : List Float) (answer : Batched) (bits′ counts′ : List ℕ) (work′ : List Float) where
   abbrev Says : List ℕ → Type 0
@@ -45,21 +48,18 @@ module _ (code rule limit : ℕ) (scale : Float) (values : List Float) (bits cou
     too-many s = (s .0 ∙ same-answer, s .1 ∙ same-memory bits _ _, s .2 ∙ same-memory counts _ _, s .3 ∙ same-memory work _ _)
 
   module _ (ps : List Pair) where
-    over : (qs : List Pair) → 24 < length qs → ltb 24 (length (pairsOf (fieldsOf qs))) ≡ true
-    over qs h = ap (ltb 24) (how-many qs) ∙ lt-ltb 24 (length qs) h
-
-    by-number : (t : Bool) → ltb 25 (length ps) ≡ t → Says (fieldsOf (take (min (length ps) 25) ps)) → Says (fieldsOf ps)
+    by-number : (t : Bool) → ltb most (length ps) ≡ t → Says (fieldsOf (take (lookedAt (length ps)) ps)) → Says (fieldsOf ps)
     by-number true e s =
-        let h : 25 < length ps = ltb-true 25 (length ps) e in
-        let cut : min (length ps) 25 ≡ 25 = min-eq-right (omega (arith, h)) in
-        let size : length (take 25 ps) ≡ 25 = length-take-le 25 ps (omega (arith, h)) in
-        too-many (fieldsOf (take 25 ps)) (fieldsOf ps) (over (take 25 ps) (omega (arith, size))) (over ps (omega (arith, h))) (subst (λ (k : ℕ). Says (fieldsOf (take k ps))) cut s)
+        let h : most < length ps = ltb-true most (length ps) e in
+        let cut : lookedAt (length ps) ≡ most = min-eq-right (omega (arith, h)) in
+        let size : length (take most ps) ≡ most = length-take-le most ps (omega (arith, h)) in
+        too-many (fieldsOf (take most ps)) (fieldsOf ps) (over (take most ps) (omega (arith, size))) (over ps (omega (arith, h))) (subst (λ (k : ℕ). Says (fieldsOf (take k ps))) cut s)
     by-number false e s =
-        let h : length ps ≤ 25 = ltb-false 25 (length ps) e in
-        let all : take (min (length ps) 25) ps ≡ ps = take-all (min (length ps) 25) ps (omega (arith, min-eq-left h)) in
+        let h : length ps ≤ most = ltb-false most (length ps) e in
+        let all : take (lookedAt (length ps)) ps ≡ ps = take-all (lookedAt (length ps)) ps (omega (arith, min-eq-left h)) in
         subst (λ (qs : List Pair). Says (fieldsOf qs)) all s
 
     -- what the flat batch says of the records that are looked at, laid in a list with room for them
-    pub answered : (xs : List ℕ) → min (length ps) 25 ≤ length ps → min (length ps) 25 * 2 ≤ length xs
-        → Says (take (min (length ps) 25 * 2) (laid (min (length ps) 25) ps xs)) → Says (fieldsOf ps)
-    answered xs few room s = by-number (ltb 25 (length ps)) refl (subst Says (take-laid (min (length ps) 25) ps xs few room) s)
+    pub answered : (xs : List ℕ) → lookedAt (length ps) ≤ length ps → lookedAt (length ps) * 2 ≤ length xs
+        → Says (take (lookedAt (length ps) * 2) (laid (lookedAt (length ps)) ps xs)) → Says (fieldsOf ps)
+    answered xs few room s = by-number (ltb most (length ps)) refl (subst Says (take-laid (lookedAt (length ps)) ps xs few room) s)

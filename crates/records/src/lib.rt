@@ -1,11 +1,11 @@
 // The batch over a lent list of pair records: their fields are laid flat in a local array, and the flat batch does the rest.
 ghost use mathlib.Core.Path.{_≡_};
-ghost use Prim.Native.Nat.{_≤_, _*_, min};
+ghost use Prim.Native.Nat.{_≤_, _*_};
 ghost use lib.ListN.{length, take};
 ghost use Rattle.refusal.specs.Outcome.{judged, kept};
 ghost use Rattle.belief.specs.Graph.{cleared};
 ghost use Rattle.batch.specs.Calls.{batchedOf, batchRefusals, batchBits, batchCounts};
-ghost use Rattle.records.specs.Fields.{fieldsOf, laid};
+ghost use Rattle.records.specs.Fields.{fieldsOf, lookedAt, laid};
 ghost use Rattle.records.specs.Answered.{Answered};
 
 // A pair: where a frame's values begin, and how many they are.
@@ -16,7 +16,7 @@ pub struct Pair {
 
 // How many of n records are looked at: one more than a batch may have is refused as any greater number is.
 fn looked_at(n: usize) -> usize
-    ensures { λ r. ⌜ r ≡ min n 25 ⌝ }
+    ensures { λ r. ⌜ r ≡ lookedAt n ⌝ }
 {
     if n > 25 {
         return 25;

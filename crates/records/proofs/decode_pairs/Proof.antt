@@ -4,7 +4,7 @@
 --     walk                 the MIR
 -- Assumes nothing.
 use mathlib.Core.Path.{_≡_, refl, sym, ap, subst}
-use Prim.Native.Nat.{ℕ, _*_, _<_, _≤_, _^_, min}
+use Prim.Native.Nat.{ℕ, _*_, _<_, _≤_, _^_}
 use native.Mathlib.Nat.{min-le-left, min-le-right}
 use native.Mathlib.Omega.{arith}
 use mathlib.Core.Bool.{true}
@@ -55,7 +55,7 @@ use Rattle.batch.specs.declared.Batched.{Batched}
 use Rattle.batch.proofs.Batched as B
 use Rattle.batch.proofs.Batched.Laws as B′
 use Rattle.records.specs.declared.Pair.{Pair}
-use Rattle.records.specs.Fields.{fieldsOf, laid}
+use Rattle.records.specs.Fields.{fieldsOf, most, lookedAt, laid}
 use Rattle.records.specs.Answered.{Answered}
 use Rattle.records.proofs.Arrays.{array, zeros-typed, lends-zeros, Back, lends-shared, shared-room}
 use Rattle.records.proofs.Fields.{length-laid}
@@ -180,7 +180,7 @@ module _ {M : Type 1} (𝓤 : URA M) (H : Heap 𝓤) (A : Atoms 𝓤) (W : Given
 
   -- how many records are looked at; the array's list, before `flatten` and after it
   abbrev n : ℕ
-  n = min (length ys) 25
+  n = lookedAt (length ys)
 
   abbrev zs : List ℕ
   zs = replicate 50 0
@@ -192,10 +192,10 @@ module _ {M : Type 1} (𝓤 : URA M) (H : Heap 𝓤) (A : Atoms 𝓤) (W : Given
   len = length-laid n ys zs
 
   few : n ≤ length ys
-  few = min-le-left (length ys) 25
+  few = min-le-left (length ys) most
 
   room : n * 2 ≤ 50
-  room = omega (arith, min-le-right (length ys) 25)
+  room = omega (arith, min-le-right (length ys) most)
 
   n-fits : n < 2 ^ 64
   n-fits = omega (arith, few, g₁ .0)
