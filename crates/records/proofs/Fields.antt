@@ -40,3 +40,7 @@ take-laid (suc n) (p ∷ ps) (x ∷ []) l m = absurd (omega arith)
 take-laid (suc n) (p ∷ ps) (x ∷ y ∷ xs) l m =
     let two : suc n * 2 ≡ suc (suc (n * 2)) = omega arith in
     rw two (ap (λ (ys : List ℕ). p .offset ∷ p .length ∷ ys) (take-laid n ps xs (omega arith) (omega arith)))
+
+pub one-record : (o n : ℕ) → fieldsOf (record { offset = o; length = n } ∷ []) ≡ o ∷ n ∷ []
+unfolding fieldsOf
+one-record o n = refl

@@ -1,5 +1,6 @@
 // The batch over a lent list of pair records: their fields are laid flat in a local array, and the flat batch does the rest.
 ghost use mathlib.Core.Path.{_≡_};
+ghost use mathlib.Core.List.{[], _∷_};
 ghost use Prim.Native.Nat.{_≤_, _*_};
 ghost use lib.ListN.{length, take};
 ghost use Rattle.refusal.specs.Outcome.{judged, kept};
@@ -99,4 +100,29 @@ pub fn decode_pairs(
         counts,
         work,
     )
+}
+
+// The batch over one record, of two numbers: a caller that makes a list of records.
+pub fn decode_one_pair(
+    code: u32,
+    rule: u32,
+    limit: u16,
+    scale: f32,
+    values: &[f32],
+    offset: u32,
+    length: u32,
+    bits: &mut [u8],
+    counts: &mut [u16],
+    work: &mut [f32],
+) -> batch::Batched
+    ensures { λ r. ⌜ batchedOf r ≡ judged (batchRefusals code rule (now (values .entry)) (offset ∷ length ∷ []) (now (bits .entry)) (now (counts .entry)) (now (work .entry))) tt ⌝ }
+    ensures { λ _. ⌜ now (bits .exit) ≡ kept (batchRefusals code rule (now (values .entry)) (offset ∷ length ∷ []) (now (bits .entry)) (now (counts .entry)) (now (work .entry))) (now (bits .entry)) (batchBits code rule scale limit (now (values .entry)) (offset ∷ length ∷ [])) ⌝ }
+    ensures { λ _. ⌜ now (counts .exit) ≡ kept (batchRefusals code rule (now (values .entry)) (offset ∷ length ∷ []) (now (bits .entry)) (now (counts .entry)) (now (work .entry))) (now (counts .entry)) (batchCounts code rule scale limit (now (values .entry)) (offset ∷ length ∷ [])) ⌝ }
+    ensures { λ _. ⌜ now (work .exit) ≡ kept (batchRefusals code rule (now (values .entry)) (offset ∷ length ∷ []) (now (bits .entry)) (now (counts .entry)) (now (work .entry))) (now (work .entry)) (cleared (now (work .entry))) ⌝ }
+{
+    let pairs = [Pair {
+        offset: offset,
+        length: length,
+    }];
+    decode_pairs(code, rule, limit, scale, values, &pairs, bits, counts, work)
 }
