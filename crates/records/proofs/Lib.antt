@@ -1,0 +1,4 @@
+pub mod Fields
+pub mod Looked
+pub mod Facts
+pub mod Arrays
