@@ -3,7 +3,7 @@ use mathlib.Core.Path.{_≡_, refl, sym, ap, ap₂, _∙_}
 use Prim.Native.Nat.{ℕ, zero, suc, _*_, _/_, _%_, _^_, _<_}
 use native.Mathlib.Nat.{mod-lt, mod-mod}
 use native.Mathlib.Omega.{arith}
-use lib.Bits.{bitAnd, and-high, bitXor, xor-shr, xor-mod, xor-zero-r}
+use lib.Bits.{bitXor, xor-shr, xor-mod, xor-zero-r}
 use lib.Pow.{pow-pos, field, mod-mod-pow}
 use Rattle.crc.specs.Register.{turn}
 use Rattle.crc.proofs.Xor.{xor-shl, xor-times, xor-middle}
@@ -23,19 +23,6 @@ turn-xor a b =
     ap₂ (λ (x y : ℕ). bitXor x (y * 0x2757)) (up-xor a b) (top-xor a b)
     ∙ ap (bitXor (bitXor (a * 2 % 2 ^ 16) (b * 2 % 2 ^ 16))) (xor-times (a / 2 ^ 13 % 2) (b / 2 ^ 13 % 2) 0x2757 (top-lt a) (top-lt b))
     ∙ xor-middle (a * 2 % 2 ^ 16) (b * 2 % 2 ^ 16) (a / 2 ^ 13 % 2 * 0x2757) (b / 2 ^ 13 % 2 * 0x2757)
-
--- the turn by its two cases, the top bit taken out with a mask
-pub turn-set : (r : ℕ) → (bitAnd r 0x2000 ≡ 0 → ⊥) → bitXor (r * 2 % 2 ^ 16) 0x2757 ≡ turn r
-unfolding turn
-turn-set r h =
-    let set : r / 2 ^ 13 % 2 ≡ 1 = omega (arith, and-high r 1 13) in
-    sym (ap (λ (n : ℕ). bitXor (r * 2 % 2 ^ 16) (n * 0x2757)) set)
-
-pub turn-clear : (r : ℕ) → bitAnd r 0x2000 ≡ 0 → r * 2 % 2 ^ 16 ≡ turn r
-unfolding turn
-turn-clear r h =
-    let clear : r / 2 ^ 13 % 2 ≡ 0 = omega (arith, and-high r 1 13) in
-    sym (ap (λ (n : ℕ). bitXor (r * 2 % 2 ^ 16) (n * 0x2757)) clear ∙ xor-zero-r (r * 2 % 2 ^ 16))
 
 -- the 14 low bits after a turn
 unfoldable pub lowTurn : ℕ → ℕ

@@ -12,7 +12,7 @@ ghost use Rattle.crc.specs.Calls.{answerOf, addedOf, bytesFor, crc14Refu
 
 const POLY: u16 = 0x2757;
 
-const TOP_BIT: u16 = 0x2000;
+const TOP_PLACE: u32 = 13;
 
 // The answer of a call that computes or reads a checksum.
 pub enum Checksum {
@@ -26,15 +26,12 @@ pub enum Added {
     Refused(Refusal),
 }
 
-// One turn of the register.
+// One turn of the register: the polynomial is multiplied by the top bit, 0 or 1, and no test is made of it.
 fn step(r: u16) -> u16
     ensures { λ q. ⌜ q ≡ turn r ⌝ }
 {
-    if r & TOP_BIT != 0 {
-        (r << 1) ^ POLY
-    } else {
-        r << 1
-    }
+    let top = (r >> TOP_PLACE) % 2;
+    (r << 1) ^ (top * POLY)
 }
 
 // The register with the byte of bit i taken in, where that bit starts a byte.

@@ -1,13 +1,22 @@
--- `crc::step` meets its contract: each case of the test of the top bit is a case of the turn.
-use Rattle.crc.proofs.Turn.{turn-set, turn-clear}
+-- `crc::step` meets its contract: its line is the turn's definition, and the product is 0 or the polynomial.
+use mathlib.Core.Path.{refl}
+use borrow.Author.Needs.{needs}
+use Rattle.crc.specs.Register.{turn}
 use Rattle.crc.proofs.step.Statement.{statement}
 use Rattle.crc.proofs.step.Tie as tie
 
-returns : tie.Need-returns
-returns c = turn-set _ (c .if1 .taken)
+cast-top : tie.Need-cast-top
+cast-top c = search needs
 
-returns-2 : tie.Need-returns-2
-returns-2 c = turn-clear _ (c .if1 .left)
+shr-top : tie.Need-shr-top
+shr-top c = search needs
+
+mul-result : tie.Need-mul-result
+mul-result c = search needs
+
+returns : tie.Need-returns
+unfolding turn
+returns c = refl
 
 pub step-spec : {M : Type 1} → statement M
-step-spec = tie.close (tie.spec returns returns-2)
+step-spec = tie.close (tie.spec cast-top shr-top mul-result returns)
