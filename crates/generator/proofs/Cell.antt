@@ -20,6 +20,7 @@ use Rattle.generator.specs.declared.Xorshift.{Xorshift}
 use Rattle.generator.proofs.Xorshift as T
 use Rattle.generator.proofs.Xorshift.Laws as T′
 
+-- the generator whose state is m, and its value in the machine
 abbrev pub holding : ℕ → Xorshift
 holding m = record { state = m }
 

@@ -8,15 +8,12 @@ use Rattle.generator.proofs.draw.Reads as reads
 use Rattle.generator.proofs.draw.Lts as lts
 use Rattle.generator.proofs.shift_left.Reads as shift-left-reads
 
--- src/lib.rt:23:21
 shift-left-requires : tie.Need-shift-left-requires
 shift-left-requires c κs = search needs
 
--- src/lib.rt:25:9
 shift-left-requires-2 : tie.Need-shift-left-requires-2
 shift-left-requires-2 c κs = search needs
 
--- src/lib.rt:20:1
 returns : tie.Need-returns
 returns c = draw-bits _ _ _ (omega arith) (c .before .shift-left .ensures) (c .shift-left2 .ensures)
 
