@@ -1,0 +1,1 @@
+// Mending: the unknown bits of a recorded word that the checks of its code decide.
