@@ -15,20 +15,14 @@ use Rattle.tanner.specs.Checks.{Word, Checks, count}
 use Rattle.tanner.specs.Flat.{Below}
 use Rattle.mender.specs.Mend.{Setting, none, at, lowest, fillBy, filled, mendedWord, mendedPlaces}
 use Rattle.mender.specs.Promise.{named, NoneTwice, OnlyUnknown, Agrees, Mends}
-use Rattle.mender.proofs.Named.{named-cons, named-none}
-use Rattle.mender.proofs.Next.{Taken, taken, taken-unknown, taken-bit, taken-right, no-setting, only-set}
-
--- an entry that is not 0 lies within the word
-inside : (w : Word) (p : ℕ) → getD w p 0 ≡ 2 → p < length w
-inside [] p e = absurd (omega arith)
-inside (b ∷ w) zero e = omega arith
-inside (b ∷ w) (suc p) e = omega (arith, inside w p e)
+use Rattle.mender.proofs.Named.{named-cons, named-none, named-fresh, named-other}
+use Rattle.mender.proofs.Settings.{Taken, taken, taken-unknown, taken-inside, taken-bit, taken-right, no-setting, only-set}
 
 -- ---- one setting
 
 module _ {cs : Checks} {w : Word} {p b : ℕ} (t : Taken cs w p b) where
   pub set-here : getD (set w p b) p 0 ≡ b
-  set-here = getD-set-same w p b 0 (inside w p (taken-unknown t))
+  set-here = getD-set-same w p b 0 (taken-inside t)
 
   pub set-known : getD (set w p b) p 0 ≡ 2 → ⊥
   set-known e = omega (arith, set-here, taken-bit t)
@@ -91,21 +85,15 @@ module _ (cs : Checks) where
   fill-unnamed (suc n) none w e q known = named-none q
   fill-unnamed (suc n) (at p b) w e q known =
       let t = taken cs w p b e in
-      named-cons q p _
-      ∙ rw (ne-eqb p q (λ s. known (ap (λ (x : ℕ). getD w x 0) (sym s) ∙ taken-unknown t)))
-      (omega (arith, fill-unnamed n (lowest cs (set w p b)) (set w p b) refl q (still-known t q known)))
+      named-other q p _ (λ s. known (ap (λ (x : ℕ). getD w x 0) (sym s) ∙ taken-unknown t))
+      ∙ fill-unnamed n (lowest cs (set w p b)) (set w p b) refl q (still-known t q known)
 
   fill-once : (n : ℕ) (s : Setting) (w : Word) → lowest cs w ≡ s → (q : ℕ) → named q (fillBy n cs s w .places) ≤ 1
   unfolding fillBy
   fill-once zero s w e q = omega (arith, named-none q)
   fill-once (suc n) none w e q = omega (arith, named-none q)
   fill-once (suc n) (at p b) w e q =
-      rw (named-cons q p _)
-      (by _ (eqb p q) refl (fill-once n (lowest cs (set w p b)) (set w p b) refl q) (fill-unnamed n (lowest cs (set w p b)) (set w p b) refl p (set-known (taken cs w p b e))))
-    where
-      by : (us : List ℕ) (t : Bool) → eqb p q ≡ t → named q us ≤ 1 → named p us ≡ 0 → cond t 1 0 + named q us ≤ 1
-      by us true f a z = omega (arith, ap (λ (x : ℕ). named x us) (eqb-true p q f))
-      by us false f a z = omega arith
+      named-fresh q p _ (fill-unnamed n (lowest cs (set w p b)) (set w p b) refl p (set-known (taken cs w p b e))) (fill-once n (lowest cs (set w p b)) (set w p b) refl q)
 
   fill-unlisted : (n : ℕ) (s : Setting) (w : Word) → lowest cs w ≡ s → (q : ℕ) → named q (fillBy n cs s w .places) ≡ 0 → getD (fillBy n cs s w .word) q 0 ≡ getD w q 0
   unfolding fillBy

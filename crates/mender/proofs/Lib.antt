@@ -1,4 +1,7 @@
 pub mod Cases
 pub mod Named
-pub mod Next
+pub mod Settings
 pub mod Laws
+pub mod Steps
+pub mod Codes
+pub mod Erased

@@ -1,13 +1,13 @@
--- How often a list names a position, entry by entry. By induction over the list. Assumes nothing.
-use mathlib.Core.Path.{_≡_, refl, sym, _∙_}
+-- How often a list names a position. By induction over the list. Assumes nothing.
+use mathlib.Core.Path.{_≡_, refl, sym, ap, _∙_}
 use mathlib.Core.Bool.{Bool, true, false, cond}
-use mathlib.Core.List.{List, [], _∷_}
+use mathlib.Core.List.{List, [], _∷_, _++_}
 use Prim.Native.Nat.{ℕ, zero, suc, _+_, _<_, _≤_}
 use native.Mathlib.Omega.{arith}
-use borrow.Author.Tests.{eq-eqb}
+use borrow.Author.Tests.{eq-eqb, ne-eqb, eqb-true}
 use lib.Dec.{eqb}
 use lib.ListN.{length}
-use Rattle.tanner.specs.Flat.{places}
+use Rattle.tanner.specs.Flat.{Below, places}
 use Rattle.mender.specs.Promise.{named}
 
 -- from whatever place the entries are counted
@@ -38,3 +38,26 @@ named-head q qs = rw (named-cons q q qs, eq-eqb q q refl) (omega arith)
 
 pub named-tail : (p q : ℕ) (qs : List ℕ) → 0 < named p qs → 0 < named p (q ∷ qs)
 named-tail p q qs h = omega (arith, named-cons p q qs)
+
+-- an entry that the rest does not name
+pub named-fresh : (p q : ℕ) (qs : List ℕ) → named q qs ≡ 0 → named p qs ≤ 1 → named p (q ∷ qs) ≤ 1
+named-fresh p q qs z h = rw (named-cons p q qs) (by (eqb q p) refl)
+  where
+    by : (t : Bool) → eqb q p ≡ t → cond t 1 0 + named p qs ≤ 1
+    by true f = omega (arith, ap (λ (x : ℕ). named x qs) (eqb-true q p f))
+    by false f = omega arith
+
+pub named-append : (p : ℕ) (xs ys : List ℕ) → named p (xs ++ ys) ≡ named p xs + named p ys
+named-append p [] ys = omega (arith, named-none p)
+named-append p (x ∷ xs) ys = named-cons p x (xs ++ ys) ∙ omega (arith, named-append p xs ys, named-cons p x xs)
+
+-- an entry is none of those beside it
+pub named-other : (p q : ℕ) (qs : List ℕ) → (q ≡ p → ⊥) → named p (q ∷ qs) ≡ named p qs
+named-other p q qs h = named-cons p q qs ∙ rw (ne-eqb q p h) (omega arith)
+
+-- positions below n alone are named
+pub named-past : (n p : ℕ) (xs : List ℕ) → Below n xs → n ≤ p → named p xs ≡ 0
+unfolding Below
+named-past n p [] low h = named-none p
+named-past n p (x ∷ xs) low h =
+    named-other p x xs (λ e. omega (arith, low 0 (omega arith))) ∙ named-past n p xs (λ k l. low (suc k) (omega arith)) h

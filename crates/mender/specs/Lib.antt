@@ -1,2 +1,3 @@
 pub mod Mend
 pub mod Promise
+pub mod Calls

@@ -71,8 +71,34 @@ head-unknown (q ∷ qs) w p us e = by (eqb (getD w q 0) 2) refl (head-unknown qs
 pub taken-unknown : {cs : Checks} {w : Word} {p b : ℕ} → Taken cs w p b → getD w p 0 ≡ 2
 taken-unknown {cs} {w} {p} t = head-unknown (getD cs (t .check) []) w p [] (t .only)
 
+-- an entry that is not 0 lies within the word
+inside : (w : Word) (p : ℕ) → getD w p 0 ≡ 2 → p < length w
+inside [] p e = absurd (omega arith)
+inside (b ∷ w) zero e = omega arith
+inside (b ∷ w) (suc p) e = omega (arith, inside w p e)
+
+pub taken-inside : {cs : Checks} {w : Word} {p b : ℕ} → Taken cs w p b → p < length w
+taken-inside {w = w} {p = p} t = inside w p (taken-unknown t)
+
 pub taken-bit : {cs : Checks} {w : Word} {p b : ℕ} → Taken cs w p b → b < 2
 taken-bit {cs} {w} {p} t = omega (arith, t .bit, parity-bit (others p (getD cs (t .check) [])) w)
+
+-- ---- the unknown position holds 2, so that the parity of the others is that of all
+
+others-parity : (w : Word) (p : ℕ) → getD w p 0 ≡ 2 → (c : List ℕ) → parity (others p c) w ≡ parity c w
+unfolding others parity
+others-parity w p hole [] = refl
+others-parity w p hole (q ∷ qs) = by (eqb q p) refl (others-parity w p hole qs)
+  where
+    by : (t : Bool) → eqb q p ≡ t → parity (others p qs) w ≡ parity qs w → parity (cond t (others p qs) (q ∷ others p qs)) w ≡ (getD w q 0 + parity qs w) % 2
+    by true f ih = rw (eqb-true q p f, hole) (omega (arith, ih, parity-bit qs w))
+    by false f ih = rw ih
+
+pub setting-parity : (c : List ℕ) (w : Word) (p b : ℕ) → settingIn c w ≡ at p b → b ≡ parity c w
+unfolding settingIn
+setting-parity c w p b e =
+    let s = single c w (unknowns c w) p b e in
+    s .bit ∙ others-parity w p (head-unknown c w p [] (s .one)) c
 
 -- ---- "the parity of the others" is the bit of every word of count 0 that agrees with the known bits
 
