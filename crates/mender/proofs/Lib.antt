@@ -5,3 +5,4 @@ pub mod Laws
 pub mod Steps
 pub mod Codes
 pub mod Erased
+pub mod Answers
