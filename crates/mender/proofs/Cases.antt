@@ -1,7 +1,6 @@
 -- Small answers of the mender: by computation.
 use mathlib.Core.Path.{_≡_, refl}
-use mathlib.Core.List.{List, [], _∷_}
-use Prim.Native.Nat.{ℕ}
+use mathlib.Core.List.{[], _∷_}
 use Rattle.tanner.specs.Checks.{Checks, parity}
 use Rattle.mender.specs.Mend.{unknowns, others, settingIn, lowest, fillBy, filled, mendedWord, mendedPlaces, listed}
 

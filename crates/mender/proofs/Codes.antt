@@ -1,8 +1,8 @@
 -- The four codes name no position twice in a check, so that all that N7 promises holds of each. A staircase row lists message columns ascending,
 -- and then its parity columns, whatever the columns are; for (174,91) it is what the tables' agreement says. Assumes nothing.
-use mathlib.Core.Path.{_≡_, refl, sym, ap, _∙_}
+use mathlib.Core.Path.{_≡_, _∙_}
 use mathlib.Core.Bool.{Bool, true, false, cond}
-use mathlib.Core.List.{List, [], _∷_, _++_}
+use mathlib.Core.List.{List, [], _∷_}
 use Prim.Native.Nat.{ℕ, zero, suc, _+_, _<_, _≤_}
 use native.Mathlib.Decide.{decLt}
 use native.Mathlib.Omega.{arith}

@@ -1,6 +1,6 @@
 -- A staircase word of count 0 whose parity bits are lost is mended whole, for any message columns. The first parity bit that stayed unknown would be
 -- the one unknown of its row, since its row's other positions lie below it; so none stays so, and each known bit is the word's. Assumes nothing.
-use mathlib.Core.Path.{_≡_, refl, sym, ap, subst, _∙_}
+use mathlib.Core.Path.{_≡_, sym, ap, _∙_}
 use mathlib.Core.List.{List, [], _∷_, _++_}
 use Prim.Native.Nat.{ℕ, zero, suc, _+_, _-_, _<_, _≤_}
 use native.Mathlib.Nat.{add-zero}
@@ -9,7 +9,7 @@ use native.Mathlib.Omega.{arith}
 use lib.ListN.{length, getD, take, replicate, length-append, length-replicate, getD-replicate, List·getD-append}
 use lib.Seq.{getD-take, getD-append-add, length-take-le, ext-getD}
 use Rattle.construction.specs.Codes.{Code}
-use Rattle.tanner.specs.Checks.{Word, Checks, count}
+use Rattle.tanner.specs.Checks.{Word, count}
 use Rattle.tanner.specs.Flat.{Below}
 use Rattle.ldpc_codes.specs.Staircase.{taps, parityEntries, checkRow, checkRows, checksOf}
 use Rattle.ldpc_codes.specs.Codes as staircase

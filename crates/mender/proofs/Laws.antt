@@ -3,18 +3,18 @@
 -- where the mender looks at entries. Assumes nothing.
 use mathlib.Core.Path.{_≡_, refl, sym, ap, _∙_}
 use mathlib.Core.Bool.{Bool, true, false, cond}
-use mathlib.Core.List.{List, [], _∷_}
+use mathlib.Core.List.{[], _∷_}
 use Prim.Native.Nat.{ℕ, zero, suc, _+_, _<_, _≤_}
 use native.Mathlib.Decide.{decLt, ℕ-discrete}
 use native.Mathlib.Omega.{arith}
-use borrow.Author.Tests.{eq-eqb, ne-eqb, eqb-true, eqb-false}
+use borrow.Author.Tests.{eq-eqb, ne-eqb}
 use lib.Dec.{eqb}
 use lib.ListN.{length, getD, set, length-set, List·getD-eq-default}
 use lib.Seq.{getD-set-same, getD-set-other}
 use Rattle.tanner.specs.Checks.{Word, Checks, count}
 use Rattle.tanner.specs.Flat.{Below}
 use Rattle.mender.specs.Mend.{Setting, none, at, lowest, fillBy, filled, mendedWord, mendedPlaces}
-use Rattle.mender.specs.Promise.{named, NoneTwice, OnlyUnknown, Agrees, Mends}
+use Rattle.mender.specs.Promise.{named, NoneTwice, Agrees, Mends}
 use Rattle.mender.proofs.Named.{named-cons, named-none, named-fresh, named-other}
 use Rattle.mender.proofs.Settings.{Taken, taken, taken-unknown, taken-inside, taken-bit, taken-right, no-setting, only-set}
 

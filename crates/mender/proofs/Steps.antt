@@ -13,7 +13,7 @@ use Rattle.tanner.specs.Checks.{Word, Checks, parity}
 use Rattle.tanner.specs.Flat.{rowsFrom}
 use Rattle.tanner.proofs.Count.{parity-bit}
 use Rattle.tanner.proofs.Steps.{rows-more, rows-done}
-use Rattle.mender.specs.Mend.{unknowns, Setting, none, at, settingOf, settingIn, lowest, Filled, fillBy, filled, mendedWord, mendedPlaces, listed}
+use Rattle.mender.specs.Mend.{unknowns, Setting, none, at, settingOf, settingIn, lowest, fillBy, filled, mendedWord, mendedPlaces, listed}
 use Rattle.mender.specs.Calls.{aboveTwo}
 use Rattle.mender.proofs.Settings.{setting-parity}
 

@@ -6,11 +6,11 @@ use lib.Dec.{eqb, ltb}
 use lib.ListN.{length}
 use Rattle.refusal.specs.Outcome.{Outcome, accepted, refused, Condition, _when_}
 use Rattle.refusal.specs.Numbers.{numberOf}
-use Rattle.construction.specs.Codes.{Code, n512r12, n576r23, n512r34}
+use Rattle.construction.specs.Codes.{n512r12, n576r23, n512r34}
 use Rattle.tanner.specs.Checks.{Word, Checks}
 use Rattle.ldpc_codes.specs.Codes as staircase
 use Rattle.ldpc.specs.Code174 as code174
-use Rattle.mender.specs.Mend.{Setting, none, at, mendedWord, mendedPlaces, listed}
+use Rattle.mender.specs.Mend.{Setting, none, at}
 use Rattle.mender.specs.declared.Mended.{Mended}
 use Rattle.mender.specs.declared.Mended.the-variants.{Count, Refused}
 use Rattle.mender.specs.declared.Next.{Next}

@@ -109,13 +109,7 @@ fn fill(starts: &[u16], flat: &[u16], word: &mut [u8], places: &mut [u16]) -> u1
 }
 
 // A word of a code of length n, with the lengths and the bytes tested.
-fn mend_over(
-    starts: &[u16],
-    flat: &[u16],
-    n: usize,
-    word: &mut [u8],
-    places: &mut [u16],
-) -> Mended
+fn mend_over(starts: &[u16], flat: &[u16], n: usize, word: &mut [u8], places: &mut [u16]) -> Mended
     requires { ⌜ FlatChecks (now starts) (now flat) n ⌝ }
     requires { ⌜ n < 65536 ⌝ }
     ensures { λ r. ⌜ mendedOf r ≡ judged (wordRefusals n (now (word .entry)) (now (places .entry))) (length (mendedPlaces (rowsOf (now (starts .entry)) (now (flat .entry))) (now (word .entry)))) ⌝ }

@@ -7,8 +7,6 @@ use Rattle.mender.proofs.Steps.{above-found, above-more, above-done}
 use borrow.Author.Needs.{needs}
 use Rattle.mender.proofs.above_two.Statement.{statement}
 use Rattle.mender.proofs.above_two.Tie as tie
-use Rattle.mender.proofs.above_two.Reads as reads
-use Rattle.mender.proofs.above_two.Lts as lts
 
 abbrev Inv-loop : tie.InvT-loop
 Inv-loop word i₀ i = (i ≤ length word) × (aboveTwo (drop i word) ≡ aboveTwo word)

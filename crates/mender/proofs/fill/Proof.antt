@@ -1,7 +1,6 @@
 -- `mender::fill` meets its contract. The invariant: what is still to be set, after what is set, is all that is set. Assumes nothing.
-use mathlib.Core.Path.{_≡_, sym, ap, _∙_}
+use mathlib.Core.Path.{sym, ap, _∙_}
 use Prim.Native.Nat.{_-_}
-use native.Mathlib.Omega.{arith}
 use lib.ListN.{length}
 use Rattle.tanner.specs.Flat.{rowsOf}
 use Rattle.mender.specs.Calls.{nextOf}
@@ -10,9 +9,6 @@ use Rattle.mender.proofs.Steps.{Going, going-start, going-more, going-n
 use borrow.Author.Needs.{needs}
 use Rattle.mender.proofs.fill.Statement.{statement}
 use Rattle.mender.proofs.fill.Tie as tie
-use Rattle.mender.proofs.fill.Reads as reads
-use Rattle.mender.proofs.fill.Lts as lts
-use Rattle.mender.proofs.next_setting.Reads as next-setting-reads
 
 abbrev Inv-loop : tie.InvT-loop
 Inv-loop starts flat word₀ places₀ n₀ word places n = Going (rowsOf starts flat) word₀ places₀ n word places

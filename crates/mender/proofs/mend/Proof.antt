@@ -1,5 +1,4 @@
 -- `mender::mend` meets its contract: each code's tables hold its checks. Assumes nothing.
-use mathlib.Core.Path.{_≡_}
 use Prim.Native.Nat.{_<_}
 use native.Mathlib.Omega.{arith}
 use borrow.Author.Tests.{lt-ltb}
@@ -14,9 +13,6 @@ use Rattle.mender.proofs.Answers.{staircase-rows, at-checks}
 use borrow.Author.Needs.{needs}
 use Rattle.mender.proofs.mend.Statement.{statement}
 use Rattle.mender.proofs.mend.Tie as tie
-use Rattle.mender.proofs.mend.Reads as reads
-use Rattle.mender.proofs.mend.Lts as lts
-use Rattle.mender.proofs.mend_over.Reads as mend-over-reads
 
 slice-aggregate-mend-over : tie.Need-slice-aggregate-mend-over
 slice-aggregate-mend-over c = search needs

@@ -1,15 +1,11 @@
 -- `mender::mend_over` meets its contract: each refusal by its test, and the word mended. Assumes nothing.
-use mathlib.Core.Path.{_≡_, sym, ap, _∙_}
+use mathlib.Core.Path.{sym, ap, _∙_}
 use native.Mathlib.Omega.{arith}
 use borrow.Author.Tests.{eq-eqb, ne-eqb}
 use Rattle.refusal.specs.Outcome.{accepted}
 use borrow.Author.Needs.{needs}
 use Rattle.mender.proofs.mend_over.Statement.{statement}
 use Rattle.mender.proofs.mend_over.Tie as tie
-use Rattle.mender.proofs.mend_over.Reads as reads
-use Rattle.mender.proofs.mend_over.Lts as lts
-use Rattle.mender.proofs.above_two.Reads as above-two-reads
-use Rattle.mender.proofs.fill.Reads as fill-reads
 
 returns : tie.Need-returns
 returns c = simp (ne-eqb _ _ (c .if1 .taken)) (search needs)

@@ -1,5 +1,4 @@
 -- `mender::next_in` meets its contract. The invariant: what is noted of the positions passed, with the rest, is what the check sets. Assumes nothing.
-use mathlib.Core.Path.{_≡_}
 use mathlib.Core.Logic.{⊎-elim}
 use Prim.Native.Nat.{_-_, _≤_}
 use native.Mathlib.Omega.{arith}
@@ -9,8 +8,6 @@ use Rattle.mender.proofs.Steps.{Scanned, scan-start, scan-unknown, scan
 use borrow.Author.Needs.{needs}
 use Rattle.mender.proofs.next_in.Statement.{statement}
 use Rattle.mender.proofs.next_in.Tie as tie
-use Rattle.mender.proofs.next_in.Reads as reads
-use Rattle.mender.proofs.next_in.Lts as lts
 
 abbrev Inv-loop : tie.InvT-loop
 Inv-loop positions word unknowns₀ at₀ odd₀ i₀ unknowns at odd i = (i ≤ length positions) × Scanned positions word i unknowns at odd

@@ -11,9 +11,6 @@ use Rattle.mender.proofs.Steps.{lowest-found, lowest-more, lowest-done}
 use borrow.Author.Needs.{needs}
 use Rattle.mender.proofs.next_setting.Statement.{statement}
 use Rattle.mender.proofs.next_setting.Tie as tie
-use Rattle.mender.proofs.next_setting.Reads as reads
-use Rattle.mender.proofs.next_setting.Lts as lts
-use Rattle.mender.proofs.next_in.Reads as next-in-reads
 
 abbrev Inv-loop : tie.InvT-loop
 Inv-loop starts flat word c₀ c = (c < length starts) × (lowest (rowsFrom starts c flat) word ≡ lowest (rowsOf starts flat) word)
