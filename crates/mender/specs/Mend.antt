@@ -66,4 +66,4 @@ mendedPlaces cs w = filled cs w .places
 
 -- "the list has N places of u16, and those past the last one set are unchanged"
 abbrev pub listed : List ℕ → List ℕ → List ℕ
-listed set old = set ++ drop (length set) old
+listed done old = done ++ drop (length done) old
