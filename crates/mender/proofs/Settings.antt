@@ -102,10 +102,11 @@ setting-parity c w p b e =
 
 -- ---- "the parity of the others" is the bit of every word of count 0 that agrees with the known bits
 
-module _ (w v : Word) (p : ℕ) (hole : getD w p 0 ≡ 2) (agree : (q : ℕ) → (getD w q 0 ≡ 2 → ⊥) → getD w q 0 ≡ getD v q 0) where
-  known-other : (q : ℕ) → eqb (getD w q 0) 2 ≡ false → eqb q p ≡ false
-  known-other q e = ne-eqb q p (λ s. eqb-false (getD w q 0) 2 e (ap (λ (x : ℕ). getD w x 0) s ∙ hole))
+-- a known position is not the unknown one
+known-other : (w : Word) (p : ℕ) → getD w p 0 ≡ 2 → (q : ℕ) → eqb (getD w q 0) 2 ≡ false → eqb q p ≡ false
+known-other w p hole q e = ne-eqb q p (λ s. eqb-false (getD w q 0) 2 e (ap (λ (x : ℕ). getD w x 0) s ∙ hole))
 
+module _ (w v : Word) (p : ℕ) (hole : getD w p 0 ≡ 2) (agree : (q : ℕ) → (getD w q 0 ≡ 2 → ⊥) → getD w q 0 ≡ getD v q 0) where
   all-known : (c : List ℕ) → unknowns c w ≡ [] → parity c v ≡ parity (others p c) w
   unfolding unknowns others parity
   all-known [] e = refl
@@ -114,7 +115,7 @@ module _ (w v : Word) (p : ℕ) (hole : getD w p 0 ≡ 2) (agree : (q : ℕ) →
       by : (t : Bool) → eqb (getD w q 0) 2 ≡ t → (unknowns qs w ≡ [] → parity qs v ≡ parity (others p qs) w) → cond t (q ∷ unknowns qs w) (unknowns qs w) ≡ []
           → (getD v q 0 + parity qs v) % 2 ≡ parity (cond (eqb q p) (others p qs) (q ∷ others p qs)) w
       by true f ih e = let z : _≡_ {A = ℕ} 0 1 = cc in absurd (omega arith)
-      by false f ih e = rw (known-other q f, ih e, agree q (eqb-false (getD w q 0) 2 f))
+      by false f ih e = rw (known-other w p hole q f, ih e, agree q (eqb-false (getD w q 0) 2 f))
 
   one-unknown : (c : List ℕ) → unknowns c w ≡ p ∷ [] → parity c v ≡ (getD v p 0 + parity (others p c) w) % 2
   unfolding unknowns others parity
@@ -127,7 +128,7 @@ module _ (w v : Word) (p : ℕ) (hole : getD w p 0 ≡ 2) (agree : (q : ℕ) →
           let same : q ≡ p = cc in
           let rest : unknowns qs w ≡ [] = cc in
           rw (eq-eqb q p same, same, all-known qs rest)
-      by false f ih e = rw (known-other q f, ih e, agree q (eqb-false (getD w q 0) 2 f)) (omega arith)
+      by false f ih e = rw (known-other w p hole q f, ih e, agree q (eqb-false (getD w q 0) 2 f)) (omega arith)
 
 zero-parity : (cs : Checks) (v : Word) → count cs v ≡ 0 → (i : ℕ) → parity (getD cs i []) v ≡ 0
 unfolding count parity
@@ -152,7 +153,7 @@ module _ (w : Word) (p : ℕ) (hole : getD w p 0 ≡ 2) where
     where
       by : (t : Bool) → eqb (getD w q 0) 2 ≡ t → length (unknowns qs w) ≡ named p qs → length (cond t (q ∷ unknowns qs w) (unknowns qs w)) ≡ named p (q ∷ qs)
       by true f ih = rw (named-cons p q qs, eq-eqb q p (alone q (named-head q qs) (eqb-true (getD w q 0) 2 f))) (omega arith)
-      by false f ih = rw (named-cons p q qs, ne-eqb q p (λ s. eqb-false (getD w q 0) 2 f (ap (λ (x : ℕ). getD w x 0) s ∙ hole))) (omega arith)
+      by false f ih = rw (named-cons p q qs, known-other w p hole q f) (omega arith)
 
 one-set : (c : List ℕ) (w : Word) (us : List ℕ) → length us ≡ 1 → settingOf c w us ≡ none → ⊥
 one-set c w [] n e = omega arith
