@@ -10,6 +10,8 @@ use ldpc::tables::BIT_EDGES;
 use ldpc::tables::BIT_START;
 use ldpc::tables::CHECK_BITS;
 use ldpc::tables::CHECK_START;
+use softmath::DecodeRule;
+use softmath::SumKind;
 use staircase::tables::N512R12_CHECK_BITS;
 use staircase::tables::N512R12_CHECK_STARTS;
 use staircase::tables::N512R12_EDGE_STARTS;
@@ -22,8 +24,6 @@ use staircase::tables::N576R23_CHECK_BITS;
 use staircase::tables::N576R23_CHECK_STARTS;
 use staircase::tables::N576R23_EDGE_STARTS;
 use staircase::tables::N576R23_EDGES;
-use softmath::DecodeRule;
-use softmath::SumKind;
 
 // A frame of code 0.
 pub fn decode_n512r12(

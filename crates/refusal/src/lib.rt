@@ -1,4 +1,4 @@
-// The refusals that every call shares: one case for each condition of document 01's table.
+// The refusals that every call shares: one case for each condition of document 01's table, and one for N7's.
 ghost use mathlib.Core.Path.{_≡_};
 ghost use Rattle.refusal.specs.Numbers.{numberOf};
 
@@ -16,9 +16,10 @@ pub enum Refusal {
     PairOrder,
     PairPastEnd,
     Malformed,
+    UnknownByte,
 }
 
-// The number that document 01 gives the refusal.
+// The refusal's number.
 pub fn number(r: Refusal) -> u8
     ensures { λ n. ⌜ n ≡ numberOf r ⌝ }
 {
@@ -36,5 +37,6 @@ pub fn number(r: Refusal) -> u8
         Refusal::PairOrder => 11,
         Refusal::PairPastEnd => 12,
         Refusal::Malformed => 13,
+        Refusal::UnknownByte => 16,
     }
 }

@@ -5,6 +5,7 @@ use construction::codes::N512R34;
 use construction::codes::N576R23;
 use ldpc_codes::Encoding;
 use ldpc_codes::Weight;
+use libc::STDOUT_FILENO;
 use staircase::tables::N512R12_CHECK_BITS;
 use staircase::tables::N512R12_CHECK_STARTS;
 use staircase::tables::N512R12_EDGE_STARTS;
@@ -17,7 +18,6 @@ use staircase::tables::N576R23_CHECK_BITS;
 use staircase::tables::N576R23_CHECK_STARTS;
 use staircase::tables::N576R23_EDGE_STARTS;
 use staircase::tables::N576R23_EDGES;
-use libc::STDOUT_FILENO;
 
 fn wide(byte: u8) -> u64 {
     byte as u64
