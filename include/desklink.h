@@ -1,6 +1,6 @@
 /* desklink.h: the C interface of libdesklink.a (`rt staticlib desklink` writes it to target/staticlib).
  *
- * Answers. Every call answers one int32_t: a value or a count from 0 up, or a refusal as minus its number, -1 to -13 or -16.
+ * Answers. Every call answers one int32_t: a value or a count from 0 up, or a refusal as minus its number, -1 to -13.
  * A refused call has written nothing. A call that only writes answers 0.
  *
  * Slices. A slice is passed as a pointer and then the number of its elements. The pointer is never null (a slice of
@@ -40,8 +40,7 @@ enum desklink_refusal {
     DESKLINK_PAIR_LENGTH = -10,     /* a pair's length is not N */
     DESKLINK_PAIR_ORDER = -11,      /* a pair starts below the end of the one before */
     DESKLINK_PAIR_PAST_END = -12,   /* a pair ends past the values */
-    DESKLINK_MALFORMED = -13,       /* a program's input is malformed; no call here answers it */
-    DESKLINK_UNKNOWN_BYTE = -16     /* a byte of a word to be mended is above 2; no call here answers it */
+    DESKLINK_MALFORMED = -13        /* a program's input is malformed; no call here answers it */
 };
 
 /* The CRC-14 of the first num_bits bits of message, most significant bit first: 0 to 0x3FFF. */

@@ -241,7 +241,7 @@ fn batch() {
 
 #[test]
 fn every_refusal_has_its_number_and_a_sentence() {
-    for number in (1..=13).chain([16]) {
+    for number in 1..=13 {
         let refusal = Refusal::from_number(number).unwrap();
         assert_eq!(refusal.number(), number);
         assert!(refusal.to_string().len() > 15);

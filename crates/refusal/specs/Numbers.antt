@@ -1,7 +1,7 @@
--- The number of each refusal: document 01's, and 16 of change request N7.
+-- The number of each refusal: document 01's, and those of the change requests, 14 and 15 of N5, 16 of N7.
 use Prim.Native.Nat.{ℕ}
 use Rattle.refusal.specs.declared.Refusal.{Refusal}
-use Rattle.refusal.specs.declared.Refusal.the-variants.{UnknownCode, UnknownRule, RuleNotOfCode, InputLength, WordTooShort, MessageSlack, TooManyPairs, OutputLength, WorkTooShort, PairLength, PairOrder, PairPastEnd, Malformed, UnknownByte}
+use Rattle.refusal.specs.declared.Refusal.the-variants.{UnknownCode, UnknownRule, RuleNotOfCode, InputLength, WordTooShort, MessageSlack, TooManyPairs, OutputLength, WorkTooShort, PairLength, PairOrder, PairPastEnd, Malformed, SumPastLimit, NoFrames, UnknownByte}
 
 abbrev pub numberOf : Refusal → ℕ
 numberOf UnknownCode = 1
@@ -17,4 +17,6 @@ numberOf PairLength = 10
 numberOf PairOrder = 11
 numberOf PairPastEnd = 12
 numberOf Malformed = 13
+numberOf SumPastLimit = 14
+numberOf NoFrames = 15
 numberOf UnknownByte = 16

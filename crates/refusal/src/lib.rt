@@ -1,4 +1,4 @@
-// The refusals that every call shares: one case for each condition of document 01's table, and one for N7's.
+// The refusals that every call shares: one case for each condition of document 01's table and of the change requests.
 ghost use mathlib.Core.Path.{_≡_};
 ghost use Rattle.refusal.specs.Numbers.{numberOf};
 
@@ -16,6 +16,8 @@ pub enum Refusal {
     PairOrder,
     PairPastEnd,
     Malformed,
+    SumPastLimit,
+    NoFrames,
     UnknownByte,
 }
 
@@ -37,6 +39,8 @@ pub fn number(r: Refusal) -> u8
         Refusal::PairOrder => 11,
         Refusal::PairPastEnd => 12,
         Refusal::Malformed => 13,
+        Refusal::SumPastLimit => 14,
+        Refusal::NoFrames => 15,
         Refusal::UnknownByte => 16,
     }
 }
