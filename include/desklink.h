@@ -1,6 +1,6 @@
 /* desklink.h: the C interface of libdesklink.a (`rt staticlib desklink` writes it to target/staticlib).
  *
- * Answers. Every call answers one int32_t: a value or a count from 0 up, or a refusal as minus its number, -1 to -13.
+ * Answers. Every call answers one int32_t: a value or a count from 0 up, or a refusal as minus its number, -1 to -13 or -16.
  * A refused call has written nothing. A call that only writes answers 0.
  *
  * Slices. A slice is passed as a pointer and then the number of its elements. The pointer is never null (a slice of
@@ -8,8 +8,8 @@
  * the whole call. A slice that is written to overlaps no other slice of the call. That is all that a caller owes: every
  * value of a number, and every length, is tested by the call.
  *
- * Codes. 0 is N512R12 (N 512, K 256), 1 is N576R23 (N 576, K 384), 2 is N512R34 (N 512, K 384); in a batch 3 is
- * (174,91) (N 174, K 91), with rules 0 and 3 only.
+ * Codes. 0 is N512R12 (N 512, K 256), 1 is N576R23 (N 576, K 384), 2 is N512R34 (N 512, K 384); in a batch and for the
+ * mender 3 is (174,91) (N 174, K 91), in a batch with rules 0 and 3 only.
  * Rules. 0 is sum-product, 1 min-sum, 2 min-sum scaled by `scale`, 3 the house default, which is rule 0.
  *
  * Work area. Each decoder borrows at least DESKLINK_WORK floats, of any contents. After an accepted call the first
@@ -40,7 +40,8 @@ enum desklink_refusal {
     DESKLINK_PAIR_LENGTH = -10,     /* a pair's length is not N */
     DESKLINK_PAIR_ORDER = -11,      /* a pair starts below the end of the one before */
     DESKLINK_PAIR_PAST_END = -12,   /* a pair ends past the values */
-    DESKLINK_MALFORMED = -13        /* a program's input is malformed; no call here answers it */
+    DESKLINK_MALFORMED = -13,       /* a program's input is malformed; no call here answers it */
+    DESKLINK_UNKNOWN_BYTE = -16     /* a byte of a word to be mended is above 2 */
 };
 
 /* The CRC-14 of the first num_bits bits of message, most significant bit first: 0 to 0x3FFF. */
@@ -83,6 +84,11 @@ int32_t desklink_decode_soft_with(uint32_t code, uint32_t rule, float scale, uin
 int32_t desklink_decode_batch(uint32_t code, uint32_t rule, uint16_t limit, float scale, const float *values,
                               size_t values_len, const uint32_t *pairs, size_t pairs_len, uint8_t *bits,
                               size_t bits_len, uint16_t *counts, size_t counts_len, float *work, size_t work_len);
+
+/* word: N bytes, each 0, 1, or 2 for an unknown bit; the unknown bits that the checks of the code (0 to 3) decide are
+ * set. places: N numbers, of which the first ones are written: the positions that were set, in the order in which they
+ * were. How many were set. */
+int32_t desklink_mend(uint32_t code, uint8_t *word, size_t word_len, uint16_t *places, size_t places_len);
 
 #ifdef __cplusplus
 }

@@ -18,10 +18,11 @@ pub enum Refusal {
     PairOrder = 11,
     PairPastEnd = 12,
     Malformed = 13,
+    UnknownByte = 16,
 }
 
 impl Refusal {
-    const ALL: [Refusal; 13] = [
+    const ALL: [Refusal; 14] = [
         Refusal::UnknownCode,
         Refusal::UnknownRule,
         Refusal::RuleNotOfCode,
@@ -35,9 +36,10 @@ impl Refusal {
         Refusal::PairOrder,
         Refusal::PairPastEnd,
         Refusal::Malformed,
+        Refusal::UnknownByte,
     ];
 
-    /// The number, 1 to 13.
+    /// The number, 1 to 13 or 16.
     ///
     /// ```
     /// assert_eq!(desklink::Refusal::MessageSlack.number(), 6);
@@ -68,6 +70,7 @@ impl fmt::Display for Refusal {
             Refusal::PairOrder => "a pair starts below the end of the one before: sort the pairs by offset, with no overlap",
             Refusal::PairPastEnd => "a pair ends past the values: pass all the values that the pairs name",
             Refusal::Malformed => "the input is malformed",
+            Refusal::UnknownByte => "a byte of the word to be mended is above 2: write 0 or 1 for a known bit, and 2 for an unknown one",
         })
     }
 }

@@ -57,6 +57,7 @@ mod ffi {
             work: *mut f32,
             work_len: usize,
         ) -> i32;
+        pub fn desklink_mend(code: u32, word: *mut u8, word_len: usize, places: *mut u16, places_len: usize) -> i32;
     }
 }
 
@@ -68,7 +69,7 @@ fn answer(number: i32) -> Result<u16, Refusal> {
     if number >= 0 {
         return Ok(number as u16);
     }
-    Err(Refusal::from_number(-number as u8).expect("the library answers -1 to -13 for a refusal"))
+    Err(Refusal::from_number(-number as u8).expect("the library answers a refusal by minus its number"))
 }
 
 // Safety, in each function below: a slice's pointer and length are those of memory that Rust has lent for the call; the
@@ -200,4 +201,18 @@ pub fn decode_batch(
         )
     })
     .map(drop)
+}
+
+/// Sets the unknown bits (2) of a recorded word of N bytes that the checks of code 0 to 3 decide, one after another, and lists their positions at
+/// the front of `places`, which has N places. How many were set.
+///
+/// ```
+/// // All bits of the zero word but the last one are known: its checks decide it.
+/// let (mut word, mut places) = ([0; 174], [0; 174]);
+/// word[173] = 2;
+/// assert_eq!(desklink::slices::mend(3, &mut word, &mut places), Ok(1));
+/// assert_eq!((word[173], places[0]), (0, 173));
+/// ```
+pub fn mend(code: u32, word: &mut [u8], places: &mut [u16]) -> Result<u16, Refusal> {
+    answer(unsafe { ffi::desklink_mend(code, word.as_mut_ptr(), word.len(), places.as_mut_ptr(), places.len()) })
 }

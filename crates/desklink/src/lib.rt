@@ -7,9 +7,11 @@ use ldpc::Count;
 use ldpc::Encoded;
 use ldpc_codes::Encoding;
 use ldpc_codes::Weight;
+use mender::Mended;
 use refusal::Refusal;
 ghost use mathlib.Core.Path.{_≡_};
 ghost use lib.IntN.{pos, negℤ};
+ghost use lib.ListN.{length};
 ghost use Rattle.refusal.specs.Outcome.{judged, kept};
 ghost use Rattle.refusal.specs.Numbers.{numberOf};
 ghost use Rattle.crc.specs.Register.{crc14};
@@ -27,6 +29,8 @@ ghost use Rattle.decoders.specs.Decodes.{ruleOf, staircaseDecode, ft8Decode};
 ghost use Rattle.decoders.specs.Calls.{decodingOf, softWithRefusals, softRefusals, ft8Refusals};
 ghost use Rattle.softmath.specs.declared.DecodeRule.the-variants as rules;
 ghost use Rattle.batch.specs.Calls.{batchedOf, batchRefusals, batchCounts, batchBits};
+ghost use Rattle.mender.specs.Mend.{mendedWord, mendedPlaces, listed};
+ghost use Rattle.mender.specs.Calls.{mendedOf, checksBy, mendRefusals};
 ghost use Rattle.desklink.specs.Coded.{coded, codedUnit};
 
 // ---- answers as numbers
@@ -106,6 +110,15 @@ fn decoding_code(answer: Decoding) -> i32
     match answer {
         Decoding::Count(v) => value_code(v),
         Decoding::Refused(r) => refusal_code(r),
+    }
+}
+
+fn mended_code(answer: Mended) -> i32
+    ensures { λ n. ⌜ n ≡ coded (mendedOf answer) ⌝ }
+{
+    match answer {
+        Mended::Count(v) => value_code(v),
+        Mended::Refused(r) => refusal_code(r),
     }
 }
 
@@ -248,4 +261,15 @@ pub extern "C" fn desklink_decode_batch(
     ensures { λ _. ⌜ now (work .exit) ≡ kept (batchRefusals code rule (now (values .entry)) (now (pairs .entry)) (now (bits .entry)) (now (counts .entry)) (now (work .entry))) (now (work .entry)) (cleared (now (work .entry))) ⌝ }
 {
     batched_code(batch::decode_batch(code, rule, limit, scale, values, pairs, bits, counts, work))
+}
+
+// ---- the mender
+
+#[no_mangle]
+pub extern "C" fn desklink_mend(code: u32, word: &mut [u8], places: &mut [u16]) -> i32
+    ensures { λ n. ⌜ n ≡ coded (judged (mendRefusals code (now (word .entry)) (now (places .entry))) (length (mendedPlaces (checksBy code) (now (word .entry))))) ⌝ }
+    ensures { λ _. ⌜ now (word .exit) ≡ kept (mendRefusals code (now (word .entry)) (now (places .entry))) (now (word .entry)) (mendedWord (checksBy code) (now (word .entry))) ⌝ }
+    ensures { λ _. ⌜ now (places .exit) ≡ kept (mendRefusals code (now (word .entry)) (now (places .entry))) (now (places .entry)) (listed (mendedPlaces (checksBy code) (now (word .entry))) (now (places .entry))) ⌝ }
+{
+    mended_code(mender::mend(code, word, places))
 }
