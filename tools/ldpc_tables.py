@@ -4,9 +4,9 @@
     ORION_SRC=folder python3 tools/ldpc_tables.py crates/ldpc
 
 ORION_SRC names a folder that holds the Rust's ldpc.rs. Written are src/tables.rt (the constants of the code), specs/Tables.antt
-(the Rust's four tables as lists) and proofs/Arrays.antt (the four arrays of the Tanner graph as lists). The graph's arrays are
-worked out here from NM and NUM_ROWS; that they are right is proved in proofs/Graph.antt, and nothing rests on this script.
-Run `rt fmt` afterwards.
+(the Rust's four tables as lists), proofs/Arrays.antt (the four arrays of the Tanner graph as lists) and proofs/CheckSets.antt (the
+checks to add up for each parity bit). The graph's arrays and the sets are worked out here from NM and NUM_ROWS; that they are right
+is proved in proofs/Graph.antt and proofs/Codewords.antt, and nothing rests on this script. Run `rt fmt` afterwards.
 """
 import os
 import re
@@ -31,6 +31,18 @@ def listed(note, name, numbers, a_line, shown):
     for i in range(0, len(numbers), a_line):
         lines.append("    " + " ∷ ".join(shown % n for n in numbers[i:i + a_line]) + " ∷\n")
     return "-- %s\nunfoldable pub %s : List ℕ\n%s =\n%s    []\n" % (note, name, name, "".join(lines))
+
+
+def check_sets(rows):
+    """For each parity bit, as binary digits, the checks whose sum covers that parity position and no other: by elimination."""
+    pairs = [[sum(1 << (p - 91) for p in row if p >= 91), 1 << c] for c, row in enumerate(rows)]
+    for bit in range(len(pairs)):
+        pivot = next(r for r in range(bit, len(pairs)) if pairs[r][0] >> bit & 1)
+        pairs[bit], pairs[pivot] = pairs[pivot], pairs[bit]
+        for r, pair in enumerate(pairs):
+            if r != bit and pair[0] >> bit & 1:
+                pairs[r] = [pair[0] ^ pairs[bit][0], pair[1] ^ pairs[bit][1]]
+    return [checks for _, checks in pairs]
 
 
 def head(what):
@@ -85,6 +97,13 @@ def main():
                      "-- Written by tools/ldpc_tables.py.\n"))
         for note, name, t, spelled in graph:
             f.write("\n" + listed(note, spelled, t, 20, "%d"))
+
+    rows = [check_bits[check_start[c]:check_start[c + 1]] for c in range(83)]
+    with open(os.path.join(crate, "proofs/CheckSets.antt"), "w", encoding="utf-8") as f:
+        f.write(head("-- For each parity bit, the checks that add up to its generator row; `Codewords.antt` shows that they do, by computation.\n"
+                     "-- Written by tools/ldpc_tables.py.\n"))
+        f.write("\n" + listed("A number for each of the 83 parity bits: its binary digit c, the lowest being 0, is 1 where check c is added.",
+                              "checkSets", check_sets(rows), 1, "0x%021x"))
 
 
 main()

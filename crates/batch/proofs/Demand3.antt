@@ -10,24 +10,24 @@ use lib.Dec.{eqb, ltb}
 use lib.Ieee.{Float}
 use lib.ListN.{length, getD, take, drop, length-map, length-take, length-drop}
 use lib.Seq.{take-at, drop-append-add, length-take-le, getD-take}
-use Rattle.tanner.specs.Checks.{Word, Checks, count}
+use Rattle.tanner.specs.Checks.{Word, count}
 use Rattle.tanner.specs.Flat.{joined, Below}
 use Rattle.construction.specs.Codes.{Code}
 use Rattle.staircase.specs.Codes.{codeOf, columns, checks}
 use Rattle.staircase.specs.Staircase.{encoded}
-use Rattle.ldpc_codes.specs.Calls.{encodedBy}
 use Rattle.staircase.proofs.EdgeCount.{columns-length}
 use Rattle.ldpc_codes.proofs.Codewords.{count-encoded, zero-count-encoded}
+use Rattle.ldpc.proofs.PackedWords.{codewords}
 use Rattle.belief.specs.Rounds.{Decode, answers, decidedFrom, decided, sent, initialWord, firstMessages, wordsFrom, roundWords, unlessDone, better, chosenFrom, chosen, chosenCount, chosenBits}
 use Rattle.belief.specs.Chosen.{words, FirstLeast}
 use Rattle.belief.proofs.AtGraph.{initial-bits, initial-length, word-bits}
 use Rattle.belief.proofs.Words.{chosen-first, count-falls, same-chosen}
-use Rattle.batch.specs.Codes.{sizeN, sizeK, decodeOf}
+use Rattle.batch.specs.Codes.{sizeN, sizeK, decodeOf, encodingOf}
 use Rattle.batch.specs.Pairs.{Pair, pairsOf, frameOf, framesOf}
 use Rattle.batch.specs.Calls.{frameCount, frameBits, batchCounts, batchBits, batchRefusals, AllWithin}
 use Rattle.batch.specs.Promise.{Batch, Accepted, frames, valuesAt, countAt, bitsAt, decodeAtPlace, ByChosenWord, SameFrame, Promise}
 use Rattle.batch.proofs.Pairs.{pairs-length, within-at}
-use Rattle.batch.proofs.Sizes.{values-staircase, bits-staircase, size-small}
+use Rattle.batch.proofs.Sizes.{size-small}
 use Rattle.batch.proofs.Whole.{batch-within}
 
 -- ---- every word of a decode is a word of bits, one for each channel value
@@ -132,7 +132,7 @@ module _ (b : Batch) (ok : Accepted b) where
 
 -- ---- the promise
 
--- for a staircase code's decode: count 0 exactly when the chosen word is the encoding of its front
+-- a staircase code's word has count 0 exactly when it is the encoding of its front
 module _ (c : Code) (w : Word) (p : Proper (c .k + c .m) w) where
   zero-encoding : count (checks c) w ≡ 0 → w ≡ encoded (c .m) (columns c) (take (c .k) w)
   unfolding checks
@@ -150,12 +150,21 @@ module _ (c : Code) (w : Word) (p : Proper (c .k + c .m) w) where
       ap (count (checks c)) e
       ∙ count-encoded (c .k) (c .m) (columns c) (omega (arith, columns-length c)) (take (c .k) w) (length-take-le (c .k) w (omega (arith, p .long))) front-bits
 
-staircase-checks : (code rule : ℕ) (scale : Float) (llr : List Float) → code < 3 → decodeOf code rule scale llr .checks ≡ checks (codeOf code)
-unfolding decodeOf
-staircase-checks zero rule scale llr h = refl
-staircase-checks (suc zero) rule scale llr h = refl
-staircase-checks (suc (suc zero)) rule scale llr h = refl
-staircase-checks (suc (suc (suc n))) rule scale llr h = absurd (omega arith)
+-- and so has a word of each of the four codes
+module _ (rule : ℕ) (scale : Float) (llr : List Float) (w : Word) where
+  zero-encoded : (code : ℕ) → Proper (sizeN code) w → count (decodeOf code rule scale llr .checks) w ≡ 0 → w ≡ encodingOf code (take (sizeK code) w)
+  unfolding decodeOf sizeN sizeK encodingOf
+  zero-encoded zero p z = zero-encoding (codeOf 0) w p z
+  zero-encoded (suc zero) p z = zero-encoding (codeOf 1) w p z
+  zero-encoded (suc (suc zero)) p z = zero-encoding (codeOf 2) w p z
+  zero-encoded (suc (suc (suc n))) p z = codewords .encoding w (record { long = p .long; low = p .bits; zero = z })
+
+  encoded-zero : (code : ℕ) → Proper (sizeN code) w → w ≡ encodingOf code (take (sizeK code) w) → count (decodeOf code rule scale llr .checks) w ≡ 0
+  unfolding decodeOf sizeN sizeK encodingOf
+  encoded-zero zero p e = encoding-zero (codeOf 0) w p e
+  encoded-zero (suc zero) p e = encoding-zero (codeOf 1) w p e
+  encoded-zero (suc (suc zero)) p e = encoding-zero (codeOf 2) w p e
+  encoded-zero (suc (suc (suc n))) p e = codewords .satisfied w (p .long) e
 
 module _ (b : Batch) (ok : Accepted b) (j : ℕ) (h : j < frames b) where
   abbrev d : Decode
@@ -172,28 +181,22 @@ module _ (b : Batch) (ok : Accepted b) (j : ℕ) (h : j < frames b) where
   unfolding chosenBits
   front = bits-are b ok j h
 
-  proper : b .code < 3 → Proper (codeOf (b .code) .k + codeOf (b .code) .m) w
-  proper l =
+  proper : Proper (sizeN (b .code)) w
+  proper =
       let p = chosen-proper d (b .limit) in
-      record { long = p .long ∙ llr-is (b .code) (b .rule) (b .scale) (valuesAt b j) ∙ frame-size b ok j h ∙ sym (values-staircase (b .code) (omega arith)); bits = p .bits }
-
-  its-front : b .code < 3 → take (codeOf (b .code) .k) w ≡ bitsAt b j
-  its-front l = rw (bits-staircase (b .code) (omega arith)) (sym front)
-
-  its-count : b .code < 3 → countAt b j ≡ count (checks (codeOf (b .code))) w
-  its-count l = counted ∙ ap (λ (cs : Checks). count cs w) (staircase-checks (b .code) (b .rule) (b .scale) (valuesAt b j) l)
+      record { long = p .long ∙ llr-is (b .code) (b .rule) (b .scale) (valuesAt b j) ∙ frame-size b ok j h; bits = p .bits }
 
   by-chosen-word : ByChosenWord b j
-  by-chosen-word = record {
-    word = w;
-    chosen = chosen-first d (b .limit);
-    itsCount = counted;
-    itsBits = front;
-    encoding = λ l z. zero-encoding (codeOf (b .code)) w (proper l) (sym (its-count l) ∙ z) ∙ ap (λ (m : List ℕ). encodedBy (b .code) m) (its-front l);
-    satisfied = λ l e.
-        its-count l
-        ∙ encoding-zero (codeOf (b .code)) w (proper l) (e ∙ ap (λ (m : List ℕ). encodedBy (b .code) m) (sym (its-front l)));
-  }
+  by-chosen-word =
+      let encode = encodingOf (b .code) in
+      record {
+        word = w;
+        chosen = chosen-first d (b .limit);
+        itsCount = counted;
+        itsBits = front;
+        encoding = λ z. zero-encoded (b .rule) (b .scale) (valuesAt b j) w (b .code) proper (sym counted ∙ z) ∙ ap encode (sym front);
+        satisfied = λ e. counted ∙ encoded-zero (b .rule) (b .scale) (valuesAt b j) w (b .code) proper (e ∙ ap encode front);
+      }
 
 -- Demand 3, whole.
 pub promise : (a b : Batch) (i j : ℕ) → SameFrame a b i j → Promise a b i j

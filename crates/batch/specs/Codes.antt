@@ -1,9 +1,12 @@
--- The four code numbers of a batch: sizes, and what is decoded.
+-- The four code numbers of a batch: sizes, what is decoded, and the encoding.
 use mathlib.Core.List.{List}
 use Prim.Native.Nat.{ℕ, zero, suc, _+_}
 use lib.Ieee.{Float}
 use Rattle.construction.specs.Codes.{Code}
-use Rattle.staircase.specs.Codes.{codeOf}
+use Rattle.staircase.specs.Codes.{codeOf, columns}
+use Rattle.staircase.specs.Staircase.{encoded}
+use Rattle.ldpc.specs.Encoding.{encodeBits}
+use Rattle.tanner.specs.Checks.{Word}
 use Rattle.belief.specs.Rounds.{Decode}
 use Rattle.decoders.specs.Decodes.{ruleOf, staircaseDecode, ft8Decode}
 
@@ -24,3 +27,7 @@ sizeK code = byCode code (λ c. c .k) 91
 -- the decode of a frame's values
 unfoldable pub decodeOf : ℕ → ℕ → Float → List Float → Decode
 decodeOf code rule scale llr = byCode code (λ c. staircaseDecode c (ruleOf rule scale) llr) (ft8Decode llr)
+
+-- the word that encodes K message bits
+unfoldable pub encodingOf : ℕ → List ℕ → Word
+encodingOf code message = byCode code (λ c. encoded (c .m) (columns c) message) (encodeBits message)

@@ -6,10 +6,9 @@ use lib.Ieee.{Float}
 use lib.ListN.{length, getD, take, drop}
 use Rattle.refusal.specs.Outcome.{Outcome, accepted, judged}
 use Rattle.tanner.specs.Checks.{Word, count}
-use Rattle.ldpc_codes.specs.Calls.{encodedBy}
 use Rattle.belief.specs.Rounds.{Decode}
 use Rattle.belief.specs.Chosen.{words, FirstLeast}
-use Rattle.batch.specs.Codes.{sizeK, decodeOf}
+use Rattle.batch.specs.Codes.{sizeK, decodeOf, encodingOf}
 use Rattle.batch.specs.Pairs.{pairsOf, frameOf, framesOf}
 use Rattle.batch.specs.Calls.{batchRefusals, batchCounts, batchBits}
 
@@ -47,15 +46,15 @@ abbrev pub decodeAtPlace : Batch → ℕ → Decode
 decodeAtPlace b j = decodeOf (b .code) (b .rule) (b .scale) (valuesAt b j)
 
 -- "the count returned is that of one chosen word among the initial hard word and the words of the rounds run, every other has at least as many
--- unsatisfied checks, every earlier one more, and the bits returned are the chosen word's; for staircase codes the count is 0 exactly when the
--- chosen word is the encoding of the bits returned"
+-- unsatisfied checks, every earlier one more, and the bits returned are the chosen word's", and, for all four codes, "the count is 0 exactly when
+-- the chosen word is the encoding of the bits returned"
 pub record ByChosenWord (b : Batch) (j : ℕ) : Type 0 where
   pub word : Word
   pub chosen : FirstLeast (decodeAtPlace b j .checks) (words (decodeAtPlace b j) (b .limit)) word
   pub itsCount : countAt b j ≡ count (decodeAtPlace b j .checks) word
   pub itsBits : bitsAt b j ≡ take (sizeK (b .code)) word
-  pub encoding : b .code < 3 → countAt b j ≡ 0 → word ≡ encodedBy (b .code) (bitsAt b j)
-  pub satisfied : b .code < 3 → word ≡ encodedBy (b .code) (bitsAt b j) → countAt b j ≡ 0
+  pub encoding : countAt b j ≡ 0 → word ≡ encodingOf (b .code) (bitsAt b j)
+  pub satisfied : word ≡ encodingOf (b .code) (bitsAt b j) → countAt b j ≡ 0
 
 -- "two accepted batches of one code, rule and scale with limits a ≤ b that hold one frame bit for bit, anywhere, whatever else they hold"
 pub record SameFrame (a b : Batch) (i j : ℕ) : Type 0 where

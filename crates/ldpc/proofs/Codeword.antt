@@ -18,7 +18,7 @@ use Rattle.ldpc.specs.Tables.{generator}
 use Rattle.ldpc.proofs.Gather.{run, run-length, run-split, number-lt, parity-bit, gathered-number, rows-parities}
 
 -- byte j of packed bits
-packed-at : (n j : ℕ) (bs : List ℕ) → j < n → getD (packed n bs) j 0 ≡ number (take 8 (drop (8 * j) bs))
+pub packed-at : (n j : ℕ) (bs : List ℕ) → j < n → getD (packed n bs) j 0 ≡ number (take 8 (drop (8 * j) bs))
 unfolding packed
 packed-at zero j bs h = absurd (omega arith)
 packed-at (suc n) zero bs h = refl
@@ -26,7 +26,7 @@ packed-at (suc n) (suc j) bs h =
     let next : 8 + 8 * j ≡ 8 * suc j = omega arith in
     packed-at n j (drop 8 bs) (omega arith) ∙ ap (λ (l : List ℕ). number (take 8 l)) (drop-drop (8 * j) 8 bs ∙ ap (λ (k : ℕ). drop k bs) next)
 
-packed-length : (n : ℕ) (bs : List ℕ) → length (packed n bs) ≡ n
+pub packed-length : (n : ℕ) (bs : List ℕ) → length (packed n bs) ≡ n
 unfolding packed
 packed-length zero bs = refl
 packed-length (suc n) bs = ap suc (packed-length n (drop 8 bs))
@@ -111,7 +111,7 @@ module _ (m : List ℕ) (size : length m ≡ 12) (bytes : Bytes m) (slack : getD
   message-front : take 91 (bits m) ≡ bits front ++ three
   message-front = ap (take 91) message-bits ∙ take-at (bits front ++ three) (replicate 5 0) 91 ninety-one
 
-  message-slack : drop 91 (bits m) ≡ replicate 5 0
+  pub message-slack : drop 91 (bits m) ≡ replicate 5 0
   message-slack = ap (drop 91) message-bits ∙ drop-at (bits front ++ three) (replicate 5 0) 91 ninety-one
 
   -- the bits that are packed, from the definition

@@ -7,3 +7,7 @@ pub mod Codeword
 pub mod Agreement
 pub mod Counting
 pub mod Cases
+pub mod CheckSets
+pub mod Span
+pub mod Codewords
+pub mod PackedWords

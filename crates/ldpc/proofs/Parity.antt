@@ -60,7 +60,7 @@ pub byte-bit : (x : ℕ) → byteParity x < 2
 unfolding byteParity
 byte-bit x = odd-bit (bitsOf 8 x)
 
-under-bit : (gs bs : List ℕ) → under gs bs < 2
+pub under-bit : (gs bs : List ℕ) → under gs bs < 2
 unfolding under
 under-bit [] bs = omega arith
 under-bit (g ∷ gs) [] = omega arith

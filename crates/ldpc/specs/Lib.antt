@@ -5,3 +5,4 @@ pub mod Encoding
 pub mod Calls
 pub mod Bytes
 pub mod Cases
+pub mod Codewords

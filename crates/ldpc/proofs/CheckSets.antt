@@ -1,0 +1,92 @@
+-- For each parity bit, the checks that add up to its generator row; `Codewords.antt` shows that they do, by computation.
+-- Written by tools/ldpc_tables.py.
+use mathlib.Core.List.{List, [], _∷_}
+use Prim.Native.Nat.{ℕ}
+
+-- A number for each of the 83 parity bits: its binary digit c, the lowest being 0, is 1 where check c is added.
+unfoldable pub checkSets : List ℕ
+checkSets =
+    0x5d308f6cb56570f57b913 ∷
+    0x150642ac074f8f830ac5e ∷
+    0x1954a6fcfd5ad558dcae0 ∷
+    0x35f5e531105c9fc67b3ad ∷
+    0x3ebfce94eaeb506f18303 ∷
+    0x75ddb24bc8c6a14719877 ∷
+    0x7743f78fa15480d428595 ∷
+    0x1f43cdecbdef78717b302 ∷
+    0x185495ccbb27f23afeaed ∷
+    0x3300c499c525e6203f584 ∷
+    0x1e2069f889f93866249c9 ∷
+    0x7c30e9f0dbc3797425553 ∷
+    0x587cf923874308785303e ∷
+    0x74397b46bd3c7b88b8c7e ∷
+    0x796ab3a3818a82e9daafc ∷
+    0x7b09e43e119984bea25a4 ∷
+    0x344a24e31de8fe4e1b526 ∷
+    0x5942d07c85f1d58bcc06b ∷
+    0x16d2e3b3164897dd7a246 ∷
+    0x33e0b6151c5bfb2eb0a1e ∷
+    0x74b09daed6e43531c4ea0 ∷
+    0x79b0a9dc544466362fbad ∷
+    0x72fa8279aef3a99d4cb0b ∷
+    0x503976633de3ff8a22fe0 ∷
+    0x1f9fa808844d59ee46f42 ∷
+    0x7741cc9be5e26515c65c4 ∷
+    0x7099d5e43ee1afca3c453 ∷
+    0x7585a13130469ed84aac4 ∷
+    0x7f8eb8971c8c710478b2f ∷
+    0x17e7df2cf0ea3c35b4622 ∷
+    0x79f2b54be8528c58ae902 ∷
+    0x35f5e511105c9fc67b3ad ∷
+    0x3cf874a7f4a7f31aa4bc4 ∷
+    0x5fa50555de19859ef858d ∷
+    0x635d71f2aabe76845ce49 ∷
+    0x7adbf704a2d4f5c2bf0f1 ∷
+    0x3f01d17b01f9920ffa1ad ∷
+    0x1d4546f8ff5a95d0d4bc4 ∷
+    0x18d548705c84418062fe0 ∷
+    0x5508c3cd353cd1e16601a ∷
+    0x7d01d56f3d61d29cab137 ∷
+    0x503976637de3ff8a22fe0 ∷
+    0x1dcca0149482dbe9a891a ∷
+    0x3942e4795910bc68bc126 ∷
+    0x5023401a350bc11b5ed2b ∷
+    0x159f5bc1ec4945eae8f91 ∷
+    0x1680c3b96278d7c34561e ∷
+    0x5a7cf923874308785303e ∷
+    0x599b141e969992acaf50f ∷
+    0x72fb5c4448550a67def26 ∷
+    0x5f53f8f1257676a20b64b ∷
+    0x0b4a2ba5fab7cfa9630a6 ∷
+    0x051c74d50ea7b11276e97 ∷
+    0x2a867b5a29b0a1e51eb35 ∷
+    0x453f34cf3aac7009283bc ∷
+    0x3f11d17b01f9920ffa1ad ∷
+    0x2bb98c38eda4dfec12f4d ∷
+    0x36fccac012fc4a3cc6489 ∷
+    0x7c03e73e1f55aabca5562 ∷
+    0x60a613b715085900723e6 ∷
+    0x5023401a340bc11b5ed2b ∷
+    0x638f41f85f8e209a63a11 ∷
+    0x0c4a13b1b0cd046a8a071 ∷
+    0x6a1912be34c543ee9c1b7 ∷
+    0x2bd58ce999a5a7a05da64 ∷
+    0x0263579d9013065770f58 ∷
+    0x697c3dba4266ee586c7ba ∷
+    0x4c9f56b291d61d2fa5951 ∷
+    0x46b178a755bdf429d5a00 ∷
+    0x4977e6e6c8511043827cb ∷
+    0x4acc2330c93f3348e39da ∷
+    0x47e3512b030e519215f7c ∷
+    0x0a4222e09c355a48834a2 ∷
+    0x4bb04cd5d71da73e3ef0d ∷
+    0x01353c9fe6a2abe88e464 ∷
+    0x4e0328e2bcf2f97d7a4e2 ∷
+    0x6c6dee8a061bc9b246693 ∷
+    0x462383a3567316d81bb35 ∷
+    0x2615ac898a1de3a8d7e20 ∷
+    0x41cf81d22dae609651fe2 ∷
+    0x7b50ea7175477678035e4 ∷
+    0x62421883888eaaedd0235 ∷
+    0x4ea50f40751be9be78649 ∷
+    []
