@@ -1,7 +1,7 @@
 -- Document 01's number for each refusal.
 use Prim.Native.Nat.{ℕ}
 use Rattle.refusal.specs.declared.Refusal.{Refusal}
-use Rattle.refusal.specs.declared.Refusal.the-variants.{UnknownCode, UnknownRule, RuleNotOfCode, InputLength, WordTooShort, MessageSlack, TooManyPairs, OutputLength, WorkTooShort, PairLength, PairOrder, PairPastEnd, Malformed}
+use Rattle.refusal.specs.declared.Refusal.the-variants.{UnknownCode, UnknownRule, RuleNotOfCode, InputLength, WordTooShort, MessageSlack, TooManyPairs, OutputLength, WorkTooShort, PairLength, PairOrder, PairPastEnd, Malformed, ByteOutOfRange, NotEighths}
 
 abbrev pub numberOf : Refusal → ℕ
 numberOf UnknownCode = 1
@@ -17,3 +17,5 @@ numberOf PairLength = 10
 numberOf PairOrder = 11
 numberOf PairPastEnd = 12
 numberOf Malformed = 13
+numberOf ByteOutOfRange = 17
+numberOf NotEighths = 18

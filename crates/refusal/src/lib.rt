@@ -16,6 +16,8 @@ pub enum Refusal {
     PairOrder,
     PairPastEnd,
     Malformed,
+    ByteOutOfRange,
+    NotEighths,
 }
 
 // The number that document 01 gives the refusal.
@@ -36,5 +38,7 @@ pub fn number(r: Refusal) -> u8
         Refusal::PairOrder => 11,
         Refusal::PairPastEnd => 12,
         Refusal::Malformed => 13,
+        Refusal::ByteOutOfRange => 17,
+        Refusal::NotEighths => 18,
     }
 }

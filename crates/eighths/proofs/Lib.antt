@@ -1,0 +1,4 @@
+pub mod Value
+pub mod Byte
+pub mod Lists
+pub mod Judged
