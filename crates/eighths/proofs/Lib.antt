@@ -2,3 +2,5 @@ pub mod Value
 pub mod Byte
 pub mod Lists
 pub mod Judged
+pub mod Laws
+pub mod Cases

@@ -2,11 +2,11 @@
 -- and by the library's `round-exact`, since a byte over eight needs no more digits than an f32 has. Assumes nothing.
 use mathlib.Core.Path.{_≡_, refl, sym, ap, _∙_, subst}
 use Prim.Native.Nat.{ℕ, zero, suc, _+_, _*_, _/_, _%_, _^_, _≤_, _<_}
-use native.Mathlib.Nat.{mul-one, one-mul, zero-mul, mul-comm, mul-assoc, mul-right-comm, mul-pos, mul-mod-left, mul-div-cancel, div-add-mod', add-zero, eq-of-mul-eq-mul-right, lt-of-lt-of-le, zero-lt-suc, mul-lt-mul-of-pos-right}
+use native.Mathlib.Nat.{mul-one, zero-mul, mul-assoc, mul-right-comm, mul-pos, mul-mod-left, mul-div-cancel, div-add-mod', add-zero, eq-of-mul-eq-mul-right, lt-of-lt-of-le, zero-lt-suc, mul-lt-mul-of-pos-right}
 use native.Mathlib.Omega.{arith}
-use mathlib.Core.Bool.{Bool, true, false, not, _&&_, _||_, Bool·beq, cond, true≢false}
+use mathlib.Core.Bool.{Bool, true, false, not, _&&_, _||_, Bool·beq, true≢false}
 use lib.Dec.{T, lit≤, eqb, leb, eqb→eq, leb→le, le→leb, lt→ltb, eqb·suc-zero, not-T}
-use lib.IntN.{ℤ, pos, negsuc, negℤ}
+use lib.IntN.{ℤ, pos}
 use lib.Pow.{shl-lt, pow-mono}
 use lib.Ieee.{Float, nan, inf, fin, binary32, up, down, unlike, neg, mul, eq, lt, round, ofInt, ofBits, inFloat, inSigned, toUnsigned, toSigned, div}
 use lib.Ieee.Fits.{and-l, and-r, and-i, eq→eqb, up-pos, down-pos}
@@ -14,7 +14,7 @@ use lib.Ieee.Exact.{HasValue, round-exact}
 use lib.Ieee.Back.{round-whole, unsigned-back, positive-back, negative-back}
 use lib.Ieee.Scale.{round-same}
 use borrow.Author.Tests.{ltb-true, ltb-false, le-ltb}
-use Rattle.eighths.specs.Values.{zero32, eighth32, eight32, isZero, timesEighth, valueOf, wholeEighths, minusZero, passes, signed, eightTimes, byteOf}
+use Rattle.eighths.specs.Values.{zero32, eighth32, eight32, timesEighth, wholeEighths, minusZero, passes, signed, eightTimes}
 
 pub same-test : (a b : Bool) → (T a → T b) → (T b → T a) → a ≡ b
 same-test true true p q = refl
@@ -188,23 +188,24 @@ under (fin s m e) n h k =
 
 -- ---- what the three tests of `whole_eighths` say
 
-to-whole : (v : Float) (n : ℕ) → Eighths v false n → HasValue (mul binary32 v eight32) false n 1
-to-whole v n h =
+-- eight times the eighths is the whole number, unrounded
+pub to-whole : (v : Float) (s : Bool) (n : ℕ) → Eighths v s n → HasValue (mul binary32 v eight32) s n 1
+to-whole v s n h =
     let some : n ≤ 2 ^ 24 = let k = h .small in omega arith in
-    subst (λ (x : Float). HasValue x false n 1) (sym (times-eight v false n (h .value))) (round-whole binary32 false n some)
+    subst (λ (x : Float). HasValue x s n 1) (sym (times-eight v s n (h .value))) (round-whole binary32 s n some)
 
 module _ (v : Float) (l : lt v zero32 ≡ false) (z : minusZero v ≡ false) where
   refuted : (T (wholeEighths v) → ⊥) → false ≡ wholeEighths v
   refuted f = same-test false (wholeEighths v) (λ t. absurd t) f
 
   pub too-low : lt (neg (ofBits binary32 0x3f800000)) (mul binary32 v eight32) ≡ false → false ≡ wholeEighths v
-  too-low f = refuted (λ t. subst T f (above (mul binary32 v eight32) (count v) (to-whole v (count v) (plain v l z t))))
+  too-low f = refuted (λ t. subst T f (above (mul binary32 v eight32) (count v) (to-whole v false (count v) (plain v l z t))))
 
   pub too-high : lt (mul binary32 v eight32) (ofBits binary32 0x5f800000) ≡ false → false ≡ wholeEighths v
   too-high f = refuted (λ t.
       let h = plain v l z t in
       let fit : count v < 2 ^ 64 = let k = h .small in omega arith in
-      subst T f (under (mul binary32 v eight32) (count v) (to-whole v (count v) h) fit))
+      subst T f (under (mul binary32 v eight32) (count v) (to-whole v false (count v) h) fit))
 
   pub too-many : (n : ℕ) → n ≡ toUnsigned 64 (mul binary32 v eight32) → 128 ≤ n → false ≡ wholeEighths v
   too-many n e f = refuted (λ t.

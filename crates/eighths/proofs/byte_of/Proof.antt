@@ -1,5 +1,5 @@
 -- `eighths::byte_of` meets its contract: eight times a value that passes is a whole number in an i8's range, and so is its negative. Assumes nothing.
-use mathlib.Core.Path.{_≡_, sym, ap, _∙_, subst}
+use mathlib.Core.Path.{sym, ap, _∙_, subst}
 use lib.IntN.{ℤ, pos, _-ℤ_}
 use mir.Syntax.{w8}
 use mir.Val.{SFits, ofZ, toZ}

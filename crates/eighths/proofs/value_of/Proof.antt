@@ -1,7 +1,5 @@
 -- `eighths::value_of` meets its contract, by definition once the byte is known to be zero or not. Assumes nothing.
-use mathlib.Core.Path.{refl, sym, ap, _∙_}
-use mathlib.Core.Bool.{true, false}
-use lib.IntN.{ℤ}
+use mathlib.Core.Path.{refl}
 use mir.Syntax.{w8}
 use mir.ValLaws.{toZ-ofZ}
 use borrow.Author.Needs.{needs}

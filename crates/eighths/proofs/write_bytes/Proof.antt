@@ -15,9 +15,6 @@ use Rattle.eighths.proofs.Byte.{byte-fits}
 use Rattle.eighths.proofs.Lists.{pass-at, fill-more, fill-done}
 use Rattle.eighths.proofs.write_bytes.Statement.{statement}
 use Rattle.eighths.proofs.write_bytes.Tie as tie
-use Rattle.eighths.proofs.write_bytes.Reads as reads
-use Rattle.eighths.proofs.write_bytes.Lts as lts
-use Rattle.eighths.proofs.byte_of.Reads as byte-of-reads
 
 abbrev Inv-loop : tie.InvT-loop
 Inv-loop values positive-is-one bytes₀ i₀ bytes i = (i ≤ length bytes) × (length bytes ≡ length bytes₀) × (take i bytes ≡ bytesOf positive-is-one (take i values))
@@ -25,39 +22,31 @@ Inv-loop values positive-is-one bytes₀ i₀ bytes i = (i ≤ length bytes) × 
 abbrev μ-loop : tie.MeasureT-loop
 μ-loop values positive-is-one bytes₀ i₀ bytes i = length bytes₀ - i
 
--- src/lib.rt:145:5
 loop-holds : tie.Need-loop-holds Inv-loop μ-loop
 unfolding bytesOf
 loop-holds c = (search needs, refl, refl)
 
--- src/lib.rt:146:25
 mul-byte-of : tie.Need-mul-byte-of Inv-loop μ-loop
 mul-byte-of c = search needs
 
--- src/lib.rt:146:25
 shared-slice-read-byte-of : tie.Need-shared-slice-read-byte-of Inv-loop μ-loop
 shared-slice-read-byte-of c = search needs
 
--- src/lib.rt:146:13
 byte-of-requires : tie.Need-byte-of-requires Inv-loop μ-loop
 byte-of-requires c κs =
     let turn = c .before in
     let start = turn .before .before .before in
     pass-at (start .args .values .now) (turn .before .loop .i) (start .pre .1) (omega arith)
 
--- src/lib.rt:147:9
 slice-set-from-b : tie.Need-slice-set-from-b Inv-loop μ-loop
 slice-set-from-b c = search needs
 
--- src/lib.rt:148:9
 add-i : tie.Need-add-i Inv-loop μ-loop
 add-i c = search needs
 
--- src/lib.rt:145:5
 loop-less : tie.Need-loop-less Inv-loop μ-loop
 loop-less c = search needs
 
--- src/lib.rt:145:5
 loop-again : tie.Need-loop-again Inv-loop μ-loop
 unfolding bytesOf
 loop-again c =
@@ -73,11 +62,9 @@ loop-again c =
           (now .inv .2),
     )
 
--- src/lib.rt:139:1
 same-length : tie.Need-same-length Inv-loop μ-loop
 same-length c = search needs
 
--- src/lib.rt:139:1
 returns : tie.Need-returns Inv-loop μ-loop
 unfolding bytesOf
 returns c =

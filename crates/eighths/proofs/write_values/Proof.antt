@@ -12,9 +12,6 @@ use Rattle.eighths.specs.Calls.{valuesOf}
 use Rattle.eighths.proofs.Lists.{fill-more, fill-done}
 use Rattle.eighths.proofs.write_values.Statement.{statement}
 use Rattle.eighths.proofs.write_values.Tie as tie
-use Rattle.eighths.proofs.write_values.Reads as reads
-use Rattle.eighths.proofs.write_values.Lts as lts
-use Rattle.eighths.proofs.value_of.Reads as value-of-reads
 
 abbrev Inv-loop : tie.InvT-loop
 Inv-loop bytes positive-is-one values₀ i₀ values i = (i ≤ length values) × (length values ≡ length values₀) × (take i values ≡ valuesOf positive-is-one (take i bytes))
@@ -22,36 +19,28 @@ Inv-loop bytes positive-is-one values₀ i₀ values i = (i ≤ length values) �
 abbrev μ-loop : tie.MeasureT-loop
 μ-loop bytes positive-is-one values₀ i₀ values i = length values₀ - i
 
--- src/lib.rt:51:5
 loop-holds : tie.Need-loop-holds Inv-loop μ-loop
 unfolding valuesOf
 loop-holds c = (search needs, refl, refl)
 
--- src/lib.rt:52:17
 shared-slice-copy-out-b : tie.Need-shared-slice-copy-out-b Inv-loop μ-loop
 shared-slice-copy-out-b c = search needs
 
--- src/lib.rt:53:21
 value-of-requires : tie.Need-value-of-requires Inv-loop μ-loop
 value-of-requires c κs = search needs
 
--- src/lib.rt:53:9
 mul-values : tie.Need-mul-values Inv-loop μ-loop
 mul-values c = search needs
 
--- src/lib.rt:53:9
 slice-write-values : tie.Need-slice-write-values Inv-loop μ-loop
 slice-write-values c = search needs
 
--- src/lib.rt:54:9
 add-i : tie.Need-add-i Inv-loop μ-loop
 add-i c = search needs
 
--- src/lib.rt:51:5
 loop-less : tie.Need-loop-less Inv-loop μ-loop
 loop-less c = search needs
 
--- src/lib.rt:51:5
 loop-again : tie.Need-loop-again Inv-loop μ-loop
 unfolding valuesOf
 loop-again c =
@@ -63,11 +52,9 @@ loop-again c =
       fill-more (valueOf (a .positive-is-one)) (pos 0) (a .bytes .now) now.values now.i _ (omega arith) (omega arith) (c .value-of .ensures ∙ ap (valueOf (a .positive-is-one)) (toZ-ofZ w8 _ (record { sfits = c .before .b .given }))) (now .inv .2),
     )
 
--- src/lib.rt:46:1
 same-length : tie.Need-same-length Inv-loop μ-loop
 same-length c = search needs
 
--- src/lib.rt:46:1
 returns : tie.Need-returns Inv-loop μ-loop
 unfolding valuesOf
 returns c =
