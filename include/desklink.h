@@ -40,7 +40,9 @@ enum desklink_refusal {
     DESKLINK_PAIR_LENGTH = -10,     /* a pair's length is not N */
     DESKLINK_PAIR_ORDER = -11,      /* a pair starts below the end of the one before */
     DESKLINK_PAIR_PAST_END = -12,   /* a pair ends past the values */
-    DESKLINK_MALFORMED = -13        /* a program's input is malformed; no call here answers it */
+    DESKLINK_MALFORMED = -13,       /* a program's input is malformed; no call here answers it */
+    DESKLINK_BYTE_OUT_OF_RANGE = -17, /* a soft byte is -128; no call here answers it */
+    DESKLINK_NOT_EIGHTHS = -18      /* a value is no soft byte's; no call here answers it */
 };
 
 /* The CRC-14 of the first num_bits bits of message, most significant bit first: 0 to 0x3FFF. */

@@ -18,10 +18,12 @@ pub enum Refusal {
     PairOrder = 11,
     PairPastEnd = 12,
     Malformed = 13,
+    ByteOutOfRange = 17,
+    NotEighths = 18,
 }
 
 impl Refusal {
-    const ALL: [Refusal; 13] = [
+    const ALL: [Refusal; 15] = [
         Refusal::UnknownCode,
         Refusal::UnknownRule,
         Refusal::RuleNotOfCode,
@@ -35,9 +37,11 @@ impl Refusal {
         Refusal::PairOrder,
         Refusal::PairPastEnd,
         Refusal::Malformed,
+        Refusal::ByteOutOfRange,
+        Refusal::NotEighths,
     ];
 
-    /// The number, 1 to 13.
+    /// The number, 1 to 13, 17 or 18.
     ///
     /// ```
     /// assert_eq!(desklink::Refusal::MessageSlack.number(), 6);
@@ -68,6 +72,8 @@ impl fmt::Display for Refusal {
             Refusal::PairOrder => "a pair starts below the end of the one before: sort the pairs by offset, with no overlap",
             Refusal::PairPastEnd => "a pair ends past the values: pass all the values that the pairs name",
             Refusal::Malformed => "the input is malformed",
+            Refusal::ByteOutOfRange => "a soft byte is -128: the other maker's bytes go from -127 to 127",
+            Refusal::NotEighths => "a value is no byte's: eight times it must be a whole number from -127 to 127, and -0.0 is none",
         })
     }
 }

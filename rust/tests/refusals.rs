@@ -241,10 +241,10 @@ fn batch() {
 
 #[test]
 fn every_refusal_has_its_number_and_a_sentence() {
-    for number in 1..=13 {
+    for number in (1..=13).chain(17..=18) {
         let refusal = Refusal::from_number(number).unwrap();
         assert_eq!(refusal.number(), number);
         assert!(refusal.to_string().len() > 15);
     }
-    assert_eq!((Refusal::from_number(0), Refusal::from_number(14)), (None, None));
+    assert_eq!((Refusal::from_number(0), Refusal::from_number(19)), (None, None));
 }
