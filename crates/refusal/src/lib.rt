@@ -19,6 +19,8 @@ pub enum Refusal {
     SumPastLimit,
     NoFrames,
     UnknownByte,
+    ByteOutOfRange,
+    NotEighths,
 }
 
 // The refusal's number.
@@ -42,5 +44,7 @@ pub fn number(r: Refusal) -> u8
         Refusal::SumPastLimit => 14,
         Refusal::NoFrames => 15,
         Refusal::UnknownByte => 16,
+        Refusal::ByteOutOfRange => 17,
+        Refusal::NotEighths => 18,
     }
 }
