@@ -1,7 +1,7 @@
 -- Answers known beforehand, computed.
 use mathlib.Core.Path.{_≡_, refl}
 use Rattle.refusal.specs.Outcome.{judged, refused, accepted}
-use Rattle.figures.specs.Fraction.{gcdWithin, gcd, Fraction, lowest}
+use Rattle.figures.specs.Fraction.{gcdWithin, gcd, lowest}
 use Rattle.figures.specs.Totals.{joinRefusals, sums, nothingYet}
 use Rattle.figures.specs.declared.Totals.{Totals}
 

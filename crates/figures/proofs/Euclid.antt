@@ -3,7 +3,7 @@ use mathlib.Core.Path.{_≡_, refl, sym, ap, _∙_}
 use Prim.Native.Nat.{ℕ, zero, suc, _+_, _*_, _/_, _%_, _≤_, _<_, _∣_}
 use native.Mathlib.Nat.{mod-lt, mul-comm, mul-left-comm, one-mul, add-zero, div-add-mod, div-self, div-eq-of-lt, mod-eq-of-lt, dvd-refl, dvd-zero, dvd-mod-iff, pos-of-dvd-of-pos, mod-eq-zero-of-dvd, mul-dvd-mul-right, dvd-of-mul-dvd-mul-right, eq-one-of-dvd-one}
 use native.Mathlib.Omega.{arith}
-use Rattle.figures.specs.Fraction.{gcdWithin, gcd, Fraction, lowest}
+use Rattle.figures.specs.Fraction.{gcdWithin, gcd, lowest}
 
 -- ---- enough divisions are enough
 enough : (n m a b : ℕ) → b ≤ n → b ≤ m → gcdWithin n a b ≡ gcdWithin m a b

@@ -1,27 +1,24 @@
 -- Document 01's cases of the staircase count, for each of the three codes: "last bit alone: 1", "Bit K alone: 2", "Message bit 0 alone: 3, but 0 if its byte is 2".
 -- A word with one bit counts the checks that name its place an odd number of times, which is computed from the checks.
-use mathlib.Core.Path.{_≡_, refl, sym, ap, _∙_}
+use mathlib.Core.Path.{_≡_, refl, _∙_}
 use mathlib.Core.Bool.{Bool, true, false, cond}
 use mathlib.Core.List.{List, [], _∷_, _++_}
-use Prim.Native.Nat.{ℕ, zero, suc, _+_, _-_, _%_, _≤_, _<_}
-use native.Mathlib.Nat.{add-zero}
-use native.Mathlib.Decide.{decLt}
+use Prim.Native.Nat.{ℕ, zero, suc, _+_, _-_, _%_, _≤_}
 use native.Mathlib.Omega.{arith}
-use borrow.Author.Tests.{eq-eqb, ne-eqb}
+use borrow.Author.Tests.{ne-eqb}
 use lib.Dec.{eqb, eqb·suc-suc}
-use lib.ListN.{length, getD, take, replicate, length-append, length-replicate, getD-replicate, List·getD-append, List·getD-eq-default}
-use lib.Seq.{take-all, getD-append-add, getD-at}
+use lib.ListN.{length, getD, take, replicate, length-append, length-replicate}
+use lib.Seq.{take-all}
 use Rattle.construction.specs.Columns.{times, holds}
 use Rattle.tanner.specs.Checks.{Word, Checks, parity, count, lowBits}
-use Rattle.tanner.specs.Flat.{joined}
 use Rattle.tanner.proofs.Count.{low-at}
 use Rattle.staircase.specs.Staircase.{taps, parityEntries, checkRow, checkRows}
 use Rattle.ldpc_codes.specs.Calls.{weightBy}
 use Rattle.staircase.specs.Codes.{codeOf, checks}
 use Rattle.staircase.proofs.Rows.{threes, rows0, rows1, rows2}
-use Rattle.staircase.proofs.N512R12.{checkBits0, check-bits-right0, checks-right0}
-use Rattle.staircase.proofs.N576R23.{checkBits1, check-bits-right1, checks-right1}
-use Rattle.staircase.proofs.N512R34.{checkBits2, check-bits-right2, checks-right2}
+use Rattle.staircase.proofs.N512R12.{checks-right0}
+use Rattle.staircase.proofs.N576R23.{checks-right1}
+use Rattle.staircase.proofs.N512R34.{checks-right2}
 
 -- the byte x at place p, with q zeros after it
 abbrev pub alone : ℕ → ℕ → ℕ → List ℕ

@@ -2,17 +2,16 @@
 -- exactly when it is the encoding of its first K bits. Inductions over the rows, from what one row's parity is.
 use mathlib.Core.Path.{_≡_, refl, sym, ap, _∙_}
 use mathlib.Core.Bool.{Bool, true, false, cond}
-use mathlib.Core.List.{List, [], _∷_, _++_, map, append-assoc, append-nil}
-use Prim.Native.Nat.{ℕ, zero, suc, _+_, _-_, _*_, _%_, _≤_, _<_}
-use native.Mathlib.Nat.{add-zero, zero-add, add-suc, suc-add, mod-lt}
-use native.Mathlib.Numerals.{add-one}
+use mathlib.Core.List.{List, [], _∷_, _++_, append-assoc}
+use Prim.Native.Nat.{ℕ, zero, suc, _+_, _-_, _%_, _≤_, _<_}
+use native.Mathlib.Nat.{add-zero, add-suc}
 use native.Mathlib.Omega.{arith}
-use lib.ListN.{length, getD, take, drop, set, length-append, length-map, length-take, length-drop, take-append-drop, List·getD-append}
-use lib.Seq.{take-at, drop-at, set-at, getD-at, getD-append-add, length-take-le}
+use lib.ListN.{length, getD, take, drop, set, length-append, length-map, length-drop, take-append-drop, List·getD-append}
+use lib.Seq.{take-at, set-at, getD-at, getD-append-add, length-take-le}
 use Rattle.construction.specs.Columns.{holds}
-use Rattle.tanner.specs.Checks.{Word, Checks, parity, count, countMasked, lowBits}
+use Rattle.tanner.specs.Checks.{Word, parity, count, countMasked, lowBits}
 use Rattle.tanner.specs.Flat.{Below, joined}
-use Rattle.tanner.proofs.Count.{parity-bit, parity-front, low-count, low-at, bits-low}
+use Rattle.tanner.proofs.Count.{parity-bit, parity-front, low-count, bits-low}
 use Rattle.staircase.specs.Staircase.{taps, parityEntries, checkRow, checkRows, checksOf, parityBits, encoded}
 use Rattle.ldpc_codes.specs.Calls.{filled}
 

@@ -1,25 +1,22 @@
 -- The calls over flat tables answer what the definitions say of the code whose checks lie in them. By the laws of tanner and of the encoding.
 use mathlib.Core.Path.{_≡_, refl, sym, ap, _∙_}
 use mathlib.Core.Bool.{Bool, true, false, cond, not}
-use mathlib.Core.List.{List, [], _∷_, _++_, reverse}
+use mathlib.Core.List.{List, [], _∷_, _++_}
 use Prim.Native.Nat.{ℕ, zero, suc, _+_, _-_, _%_, _≤_, _<_}
-use native.Mathlib.Nat.{add-zero, add-suc}
 use native.Mathlib.Numerals.{add-one}
 use native.Mathlib.Omega.{arith}
 use borrow.Author.Tests.{eqb-true}
-use lib.Bits.{bitAnd}
 use lib.Dec.{eqb}
-use lib.ListN.{length, getD, set, take, drop, length-set, length-take, length-drop, length-reverse}
-use lib.Seq.{set-at, set-set, drop-cons, take-suc, append-snoc, getD-take, getD-drop, length-take-le}
+use lib.ListN.{length, getD, set, take, drop, length-drop}
+use lib.Seq.{set-at, set-set, drop-cons, take-suc, append-snoc, length-take-le}
 use Rattle.refusal.specs.Outcome.{Outcome, judged, kept}
-use Rattle.construction.specs.Columns.{made, nextColumn, finished}
 use Rattle.construction.specs.Codes.{Code}
-use Rattle.tanner.specs.Checks.{Checks, count, countMasked, lowBits, xorFrom}
-use Rattle.tanner.specs.Flat.{joined, offsets, cut, rowsFrom, rowsOf, Below, Within, FlatChecks}
+use Rattle.tanner.specs.Checks.{count, countMasked, lowBits}
+use Rattle.tanner.specs.Flat.{joined, offsets, rowsFrom, rowsOf, Below, FlatChecks}
 use Rattle.tanner.proofs.Count.{low-count, count-front}
 use Rattle.tanner.proofs.Flat.{rows-laid, flat-checks, all-below}
 use Rattle.tanner.proofs.Steps.{rows-more, rows-done}
-use Rattle.staircase.specs.Staircase.{checksOf, encoded}
+use Rattle.staircase.specs.Staircase.{encoded}
 use Rattle.staircase.specs.Codes.{columns, checks}
 use Rattle.ldpc_codes.specs.Calls.{filled, lengthRefusals, shortRefusals}
 use Rattle.staircase.proofs.EdgeCount.{columns-length}

@@ -1,5 +1,4 @@
 -- `figures::fraction` meets its contract: with frames, the greatest common divisor is not 0, and both numbers are divided by it.
-use mathlib.Core.Path.{_≡_, refl, sym}
 use Prim.Native.Nat.{_<_}
 use borrow.Author.Needs.{needs}
 use borrow.Author.Tests.{eq-eqb, ne-eqb}

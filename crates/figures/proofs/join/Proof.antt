@@ -1,5 +1,5 @@
 -- `figures::join` meets its contract, test by test: where no sum passes its limit, none wraps.
-use mathlib.Core.Path.{_≡_, sym, _∙_}
+use mathlib.Core.Path.{sym, _∙_}
 use Prim.Native.Nat.{_+_}
 use native.Mathlib.Omega.{arith}
 use borrow.Author.Tests.{ltb-false}

@@ -1,9 +1,7 @@
 -- `figures::of_frame` meets its contract: 1 for a clean frame, and 0 for another.
-use mathlib.Core.Path.{_≡_, refl, sym, ap, _∙_}
-use mathlib.Core.Bool.{Bool, cond}
+use mathlib.Core.Path.{_≡_, sym, _∙_}
+use mathlib.Core.Bool.{cond}
 use mathlib.Core.Logic.{⊎-elim}
-use Prim.Native.Nat.{ℕ}
-use Rattle.figures.specs.declared.Totals.{Totals}
 use Rattle.figures.proofs.of_frame.Statement.{statement}
 use Rattle.figures.proofs.of_frame.Tie as tie
 use Rattle.figures.proofs.of_frame.Reads as reads

@@ -1,5 +1,5 @@
 -- `figures::passes` meets its contract: beyond the limit alone, or with what it leaves.
-use mathlib.Core.Path.{_≡_, refl, sym}
+use mathlib.Core.Path.{sym}
 use Prim.Native.Nat.{_+_}
 use native.Mathlib.Omega.{arith}
 use borrow.Author.Tests.{lt-ltb}

@@ -1,5 +1,5 @@
 -- `ldpc_codes::parity_bit` meets its contract: the count of one check is the low bit of its bytes XORed. Assumes nothing.
-use mathlib.Core.Path.{_≡_, refl, sym, ap, _∙_}
+use mathlib.Core.Path.{sym, ap, _∙_}
 use Prim.Native.Nat.{ℕ, _%_}
 use native.Mathlib.Omega.{arith}
 use lib.ListN.{set, length-set}
@@ -16,7 +16,7 @@ slice-write-codeword : tie.Need-slice-write-codeword
 slice-write-codeword c = search needs
 
 xor-check-requires : tie.Need-xor-check-requires
-xor-check-requires c κs = rw length-set (c .before .before .before .before .pre .0)
+xor-check-requires c κs = rw length-set (c .before .before .before .pre .0)
 
 slice-write-codeword-2 : tie.Need-slice-write-codeword-2
 slice-write-codeword-2 c = simp length-set (omega arith)
@@ -25,7 +25,9 @@ same-length : tie.Need-same-length
 same-length c = simp length-set
 
 returns : tie.Need-returns
-returns c = ?
+returns c =
+    let a = c .before .before .before .before .args in
+    stored-once (a .codeword .now) (a .at) (c .xor-check .result % 2) (ap (λ (x : ℕ). x % 2) (c .xor-check .ensures) ∙ sym (one-counted (a .positions .now) (set (a .codeword .now) (a .at) 0)))
 
 pub parity-bit-spec : {M : Type 1} → statement M
 parity-bit-spec =
