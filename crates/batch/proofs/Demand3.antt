@@ -22,7 +22,7 @@ use Rattle.belief.specs.Rounds.{Decode, answers, decidedFrom, decided, sent, in
 use Rattle.belief.specs.Chosen.{words, FirstLeast}
 use Rattle.belief.proofs.AtGraph.{initial-bits, initial-length, word-bits}
 use Rattle.belief.proofs.Words.{chosen-first, count-falls, same-chosen}
-use Rattle.batch.specs.Codes.{sizeN, sizeK, decodeOf, encodingOf}
+use Rattle.batch.specs.Codes.{sizeN, sizeK, decodeOf, encodingBy}
 use Rattle.batch.specs.Pairs.{Pair, pairsOf, frameOf, framesOf}
 use Rattle.batch.specs.Calls.{frameCount, frameBits, batchCounts, batchBits, batchRefusals, AllWithin}
 use Rattle.batch.specs.Promise.{Batch, Accepted, frames, valuesAt, countAt, bitsAt, decodeAtPlace, ByChosenWord, SameFrame, Promise}
@@ -152,15 +152,15 @@ module _ (c : Code) (w : Word) (p : Proper (c .k + c .m) w) where
 
 -- and so has a word of each of the four codes
 module _ (rule : ℕ) (scale : Float) (llr : List Float) (w : Word) where
-  zero-encoded : (code : ℕ) → Proper (sizeN code) w → count (decodeOf code rule scale llr .checks) w ≡ 0 → w ≡ encodingOf code (take (sizeK code) w)
-  unfolding decodeOf sizeN sizeK encodingOf
+  zero-encoded : (code : ℕ) → Proper (sizeN code) w → count (decodeOf code rule scale llr .checks) w ≡ 0 → w ≡ encodingBy code (take (sizeK code) w)
+  unfolding decodeOf sizeN sizeK encodingBy
   zero-encoded zero p z = zero-encoding (codeOf 0) w p z
   zero-encoded (suc zero) p z = zero-encoding (codeOf 1) w p z
   zero-encoded (suc (suc zero)) p z = zero-encoding (codeOf 2) w p z
   zero-encoded (suc (suc (suc n))) p z = codewords .encoding w (record { long = p .long; low = p .bits; zero = z })
 
-  encoded-zero : (code : ℕ) → Proper (sizeN code) w → w ≡ encodingOf code (take (sizeK code) w) → count (decodeOf code rule scale llr .checks) w ≡ 0
-  unfolding decodeOf sizeN sizeK encodingOf
+  encoded-zero : (code : ℕ) → Proper (sizeN code) w → w ≡ encodingBy code (take (sizeK code) w) → count (decodeOf code rule scale llr .checks) w ≡ 0
+  unfolding decodeOf sizeN sizeK encodingBy
   encoded-zero zero p e = encoding-zero (codeOf 0) w p e
   encoded-zero (suc zero) p e = encoding-zero (codeOf 1) w p e
   encoded-zero (suc (suc zero)) p e = encoding-zero (codeOf 2) w p e
@@ -188,7 +188,7 @@ module _ (b : Batch) (ok : Accepted b) (j : ℕ) (h : j < frames b) where
 
   by-chosen-word : ByChosenWord b j
   by-chosen-word =
-      let encode = encodingOf (b .code) in
+      let encode = encodingBy (b .code) in
       record {
         word = w;
         chosen = chosen-first d (b .limit);

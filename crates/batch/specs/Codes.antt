@@ -29,5 +29,5 @@ unfoldable pub decodeOf : ℕ → ℕ → Float → List Float → Decode
 decodeOf code rule scale llr = byCode code (λ c. staircaseDecode c (ruleOf rule scale) llr) (ft8Decode llr)
 
 -- the word that encodes K message bits
-unfoldable pub encodingOf : ℕ → List ℕ → Word
-encodingOf code message = byCode code (λ c. encoded (c .m) (columns c) message) (encodeBits message)
+unfoldable pub encodingBy : ℕ → List ℕ → Word
+encodingBy code message = byCode code (λ c. encoded (c .m) (columns c) message) (encodeBits message)

@@ -8,7 +8,7 @@ use Rattle.refusal.specs.Outcome.{Outcome, accepted, judged}
 use Rattle.tanner.specs.Checks.{Word, count}
 use Rattle.belief.specs.Rounds.{Decode}
 use Rattle.belief.specs.Chosen.{words, FirstLeast}
-use Rattle.batch.specs.Codes.{sizeK, decodeOf, encodingOf}
+use Rattle.batch.specs.Codes.{sizeK, decodeOf, encodingBy}
 use Rattle.batch.specs.Pairs.{pairsOf, frameOf, framesOf}
 use Rattle.batch.specs.Calls.{batchRefusals, batchCounts, batchBits}
 
@@ -53,8 +53,8 @@ pub record ByChosenWord (b : Batch) (j : ℕ) : Type 0 where
   pub chosen : FirstLeast (decodeAtPlace b j .checks) (words (decodeAtPlace b j) (b .limit)) word
   pub itsCount : countAt b j ≡ count (decodeAtPlace b j .checks) word
   pub itsBits : bitsAt b j ≡ take (sizeK (b .code)) word
-  pub encoding : countAt b j ≡ 0 → word ≡ encodingOf (b .code) (bitsAt b j)
-  pub satisfied : word ≡ encodingOf (b .code) (bitsAt b j) → countAt b j ≡ 0
+  pub encoding : countAt b j ≡ 0 → word ≡ encodingBy (b .code) (bitsAt b j)
+  pub satisfied : word ≡ encodingBy (b .code) (bitsAt b j) → countAt b j ≡ 0
 
 -- "two accepted batches of one code, rule and scale with limits a ≤ b that hold one frame bit for bit, anywhere, whatever else they hold"
 pub record SameFrame (a b : Batch) (i j : ℕ) : Type 0 where
