@@ -1,7 +1,6 @@
 -- The definitions yield each (P) case of document 01: the cases of the crates below, and (174,91)'s two decodes by computation. Assumes nothing.
-use mathlib.Core.Path.{_≡_, refl, sym, ap, _∙_}
-use mathlib.Core.List.{List, [], _∷_, map}
-use lib.Ieee.{Float, nan, neg, le, ofBits}
+use mathlib.Core.Path.{_≡_, refl}
+use lib.Ieee.{neg, le, ofBits}
 use lib.ListN.{replicate}
 use Rattle.tanner.specs.Checks.{parity, count}
 use Rattle.softmath.specs.Functions.{decide}
@@ -11,7 +10,7 @@ use Rattle.ldpc.specs.Tables.{nm, numRows}
 use Rattle.ldpc.specs.Code174.{checks, rowsOfSeven}
 use Rattle.ldpc.proofs.Cases.{code-cases}
 use Rattle.ldpc_codes.proofs.Cases.{cases0, cases1, cases2}
-use Rattle.belief.specs.Rounds.{Decode, initialWord, wordsFrom, roundWords, chosenFrom, chosen, chosenCount, chosenBits}
+use Rattle.belief.specs.Rounds.{initialWord, wordsFrom, roundWords, chosenFrom, chosen, chosenCount, chosenBits}
 use Rattle.decoders.specs.Decodes.{ft8Decode}
 use Rattle.batch.specs.Cases.{minusZeros, nans, table, Yields}
 

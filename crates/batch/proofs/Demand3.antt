@@ -1,10 +1,10 @@
 -- Demand 3: the promise between two limits, for any two accepted batches that hold one frame. What the call gives at a place is what the definition
 -- gives for that frame's values alone, so the promise of a frame's decode carries over. Assumes nothing.
-use mathlib.Core.Path.{_≡_, refl, sym, ap, subst, _∙_}
+use mathlib.Core.Path.{_≡_, refl, sym, ap, _∙_}
 use mathlib.Core.Bool.{Bool, true, false, cond}
-use mathlib.Core.List.{List, [], _∷_, _++_, map}
-use Prim.Native.Nat.{ℕ, zero, suc, _+_, _*_, _<_, _≤_}
-use native.Mathlib.Nat.{suc-mul, zero-mul, add-comm}
+use mathlib.Core.List.{List, [], _∷_, map}
+use Prim.Native.Nat.{ℕ, zero, suc, _+_, _*_, _<_}
+use native.Mathlib.Nat.{suc-mul, zero-mul}
 use native.Mathlib.Omega.{arith}
 use lib.Dec.{eqb, ltb}
 use lib.Ieee.{Float}
@@ -18,15 +18,14 @@ use Rattle.staircase.specs.Staircase.{encoded}
 use Rattle.staircase.proofs.EdgeCount.{columns-length}
 use Rattle.ldpc_codes.proofs.Codewords.{count-encoded, zero-count-encoded}
 use Rattle.ldpc.proofs.PackedWords.{codewords}
-use Rattle.belief.specs.Rounds.{Decode, answers, decidedFrom, decided, sent, initialWord, firstMessages, wordsFrom, roundWords, unlessDone, better, chosenFrom, chosen, chosenCount, chosenBits}
-use Rattle.belief.specs.Chosen.{words, FirstLeast}
+use Rattle.belief.specs.Rounds.{Decode, answers, decidedFrom, decided, sent, initialWord, firstMessages, wordsFrom, roundWords, better, chosenFrom, chosen, chosenCount, chosenBits}
 use Rattle.belief.proofs.AtGraph.{initial-bits, initial-length, word-bits}
 use Rattle.belief.proofs.Words.{chosen-first, count-falls, same-chosen}
 use Rattle.batch.specs.Codes.{sizeN, sizeK, decodeOf, encodingBy}
 use Rattle.batch.specs.Pairs.{Pair, pairsOf, frameOf, framesOf}
-use Rattle.batch.specs.Calls.{frameCount, frameBits, batchCounts, batchBits, batchRefusals, AllWithin}
+use Rattle.batch.specs.Calls.{frameCount, frameBits, batchCounts, batchBits}
 use Rattle.batch.specs.Promise.{Batch, Accepted, frames, valuesAt, countAt, bitsAt, decodeAtPlace, ByChosenWord, SameFrame, Promise}
-use Rattle.batch.proofs.Pairs.{pairs-length, within-at}
+use Rattle.batch.proofs.Pairs.{within-at}
 use Rattle.batch.proofs.Sizes.{size-small}
 use Rattle.batch.proofs.Whole.{batch-within}
 

@@ -1,24 +1,24 @@
 -- The frames of a batch: one frame's answer by its code, and the loop over the frames. Assumes nothing.
-use mathlib.Core.Path.{_≡_, refl, sym, ap, subst, _∙_}
-use mathlib.Core.List.{List, [], _∷_, _++_, map, append-assoc, append-nil}
+use mathlib.Core.Path.{_≡_, refl, sym, ap, _∙_}
+use mathlib.Core.List.{List, _∷_, _++_, map, append-assoc, append-nil}
 use Prim.Native.Nat.{ℕ, zero, suc, _+_, _*_, _-_, _<_, _≤_}
 use native.Mathlib.Nat.{mul-le-mul, suc-mul}
 use native.Mathlib.Numerals.{add-one}
 use native.Mathlib.Omega.{arith}
 use lib.Ieee.{Float}
-use lib.ListN.{length, getD, take, drop, set, length-append, length-map, length-take, length-drop, replicate, length-replicate, drop-of-length-le, List·getD-map}
-use lib.Seq.{take-at, drop-at, drop-cons, take-all, length-take-le, take-suc-set}
+use lib.ListN.{length, getD, take, drop, length-append, length-map, length-take, length-drop, replicate, length-replicate, drop-of-length-le, List·getD-map}
+use lib.Seq.{take-at, drop-at, drop-cons, take-all, length-take-le}
 use Rattle.softmath.specs.declared.DecodeRule.{DecodeRule}
 use Rattle.tanner.specs.Flat.{joined}
-use Rattle.belief.specs.Rounds.{Decode, chosenCount, chosenBits}
+use Rattle.belief.specs.Rounds.{Decode}
 use Rattle.belief.specs.Chosen.{Chose}
 use Rattle.belief.specs.Graph.{cleared}
 use Rattle.softmath.specs.Single.{zero32}
 use Rattle.staircase.specs.Codes.{codeOf}
 use Rattle.decoders.specs.Decodes.{ruleOf, staircaseDecode, ft8Decode}
-use Rattle.batch.specs.Codes.{sizeN, sizeK, decodeOf}
+use Rattle.batch.specs.Codes.{sizeK, decodeOf}
 use Rattle.batch.specs.Pairs.{Pair, pairsOf, frameOf, framesOf}
-use Rattle.batch.specs.Calls.{frameCount, frameBits, batchCounts, batchBits, AllWithin}
+use Rattle.batch.specs.Calls.{frameCount, frameBits, batchCounts, AllWithin}
 use Rattle.batch.proofs.Pairs.{pairs-length, pair-at, within-at}
 
 -- ---- one frame

@@ -1,14 +1,14 @@
 -- The batch's refusals as a whole: the numbers and lengths first, then the pairs. Assumes nothing.
-use mathlib.Core.Path.{_≡_, refl, sym, ap, _∙_}
+use mathlib.Core.Path.{_≡_, sym, _∙_}
 use mathlib.Core.Bool.{not}
-use mathlib.Core.List.{List, _++_}
+use mathlib.Core.List.{List}
 use Prim.Native.Nat.{ℕ, _*_, _/_, _<_, _≤_}
 use native.Mathlib.Omega.{arith}
 use borrow.Author.Tests.{eqb-true, ltb-false, not-false}
 use lib.Dec.{eqb, ltb}
 use lib.Ieee.{Float}
 use lib.ListN.{length}
-use Rattle.refusal.specs.Outcome.{Outcome, refused, Condition, judged, kept}
+use Rattle.refusal.specs.Outcome.{Outcome, refused, Condition, kept}
 use Rattle.batch.specs.Codes.{sizeN, sizeK}
 use Rattle.batch.specs.Pairs.{pairsOf}
 use Rattle.batch.specs.Calls.{ruleNotOfCode, headRefusals, pairRefusals, batchRefusals, AllWithin}

@@ -9,7 +9,7 @@ use lib.ListN.{length}
 use Rattle.refusal.specs.Outcome.{Outcome, accepted, refused, Condition, _when_}
 use Rattle.refusal.specs.Numbers.{numberOf}
 use Rattle.tanner.specs.Flat.{joined}
-use Rattle.belief.specs.Rounds.{Decode, chosenCount, chosenBits}
+use Rattle.belief.specs.Rounds.{chosenCount, chosenBits}
 use Rattle.batch.specs.Codes.{sizeN, sizeK, decodeOf}
 use Rattle.batch.specs.Pairs.{Pair, pairsOf, framesOf}
 use Rattle.batch.specs.declared.Batched.{Batched}

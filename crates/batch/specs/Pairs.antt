@@ -1,6 +1,6 @@
 -- "Frames lie in one f32 slice, named by a lent list of pair records, each an offset and a length": a pair, and the frames that pairs name.
-use mathlib.Core.List.{List, [], _∷_, _++_, map}
-use Prim.Native.Nat.{ℕ, _+_}
+use mathlib.Core.List.{List, [], _∷_, map}
+use Prim.Native.Nat.{ℕ}
 use lib.Ieee.{Float}
 use lib.ListN.{take, drop}
 

@@ -9,7 +9,7 @@ use Rattle.tanner.specs.Checks.{Word, count}
 use Rattle.belief.specs.Rounds.{Decode}
 use Rattle.belief.specs.Chosen.{words, FirstLeast}
 use Rattle.batch.specs.Codes.{sizeK, decodeOf, encodingBy}
-use Rattle.batch.specs.Pairs.{pairsOf, frameOf, framesOf}
+use Rattle.batch.specs.Pairs.{pairsOf, framesOf}
 use Rattle.batch.specs.Calls.{batchRefusals, batchCounts, batchBits}
 
 -- a batch as it is handed over: its numbers, and what the lent slices hold

@@ -9,17 +9,16 @@ use native.Mathlib.Nat.{add-zero, zero-add, add-suc, suc-add}
 use native.Mathlib.Decide.{decLt}
 use native.Mathlib.Numerals.{add-one}
 use native.Mathlib.Omega.{arith}
-use borrow.Author.Tests.{eqb-true}
 use lib.Dec.{eqb}
 use lib.Ieee.{Float, nan}
-use lib.ListN.{length, getD, take, drop, set, length-append, length-set, length-map, List·getD-append}
-use lib.Seq.{getD-set-same, getD-set-other, ext-getD, getD-append-add, getD-append-seam, append-snoc}
+use lib.ListN.{length, getD, take, drop, set, length-set}
+use lib.Seq.{getD-set-same, getD-set-other, ext-getD, append-snoc}
 use Rattle.softmath.specs.Functions.{decide}
 use Rattle.softmath.specs.VariableNode.{decisionSum, newMessages, answersAt, EdgesWithin, Distinct, none, more, putAt, bitTurned}
 use Rattle.softmath.specs.declared.SumKind.{SumKind}
 use Rattle.softmath.proofs.Messages.{turned-put, put-other, put-same, put-length, answers-length, messages-length}
 use Rattle.tanner.specs.Flat.{joined, places, Below}
-use Rattle.tanner.proofs.Places.{places-stand, rank, rank-inside, rank-place}
+use Rattle.tanner.proofs.Places.{places-stand, rank-inside, rank-place}
 use Rattle.belief.specs.Rounds.{Decode, channel, heard, decidedFrom, decided, sentFrom, sent}
 use Rattle.belief.specs.Passes.{Pass, passOf, partAt, bitDone, bitTurn, turns}
 

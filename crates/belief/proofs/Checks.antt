@@ -1,12 +1,12 @@
 -- The pass over the checks, part by part in place, is the check step of the definition. By induction over the checks. Assumes nothing.
 use mathlib.Core.Path.{_≡_, refl, sym, ap, _∙_}
 use mathlib.Core.List.{List, [], _∷_, _++_, map, append-assoc, append-nil}
-use Prim.Native.Nat.{ℕ, zero, suc, _+_, _-_, _≤_, _<_}
+use Prim.Native.Nat.{ℕ, _+_, _-_, _≤_, _<_}
 use native.Mathlib.Numerals.{add-one}
 use native.Mathlib.Omega.{arith}
 use lib.Ieee.{Float}
-use lib.ListN.{length, take, drop, getD, length-append, length-map, length-take, length-drop, take-append-drop, drop-of-length-le}
-use lib.Seq.{take-at, drop-at, drop-cons, take-append-le, drop-append-le, length-take-le}
+use lib.ListN.{length, take, drop, getD, length-append, length-take, length-drop, take-append-drop, drop-of-length-le}
+use lib.Seq.{take-at, drop-at, drop-cons, length-take-le}
 use Rattle.tanner.specs.Checks.{Checks}
 use Rattle.tanner.specs.Flat.{joined, ends, offsets}
 use Rattle.belief.specs.Rounds.{byCheck}

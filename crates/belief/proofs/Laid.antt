@@ -1,5 +1,5 @@
 -- Arrays that hold a check list and each position's edges are a graph, and the decode at them is the decode at the check list. Assumes nothing.
-use mathlib.Core.Path.{_≡_, refl, sym, ap, ap₂, subst, _∙_}
+use mathlib.Core.Path.{_≡_, sym, ap, ap₂, subst, _∙_}
 use mathlib.Core.List.{List}
 use Prim.Native.Nat.{ℕ, _<_, _≤_}
 use native.Mathlib.Omega.{arith}
@@ -10,7 +10,7 @@ use Rattle.softmath.specs.declared.SumKind.{SumKind}
 use Rattle.tanner.specs.Checks.{Checks}
 use Rattle.tanner.specs.Flat.{Below, offsets, joined, rowsOf, bitEdges}
 use Rattle.tanner.proofs.Flat.{rows-laid, offsets-length}
-use Rattle.belief.specs.Rounds.{Decode, chosenCount, chosenBits}
+use Rattle.belief.specs.Rounds.{chosenCount, chosenBits}
 use Rattle.belief.specs.Graph.{Graph, decodeAt}
 use Rattle.belief.specs.Chosen.{Chose}
 

@@ -1,15 +1,15 @@
 -- One turn of the round loop: what is kept is the chosen word so far, and the choice among the words still ahead is the choice among all. Assumes nothing.
-use mathlib.Core.Path.{_≡_, refl, sym, ap, subst, _∙_}
-use mathlib.Core.Bool.{Bool, true, false, cond}
-use mathlib.Core.List.{List, [], _∷_}
-use Prim.Native.Nat.{ℕ, zero, suc, _+_, _-_, _<_, _≤_}
+use mathlib.Core.Path.{_≡_, sym, subst, _∙_}
+use mathlib.Core.Bool.{true, false}
+use mathlib.Core.List.{List}
+use Prim.Native.Nat.{ℕ, suc, _-_, _<_, _≤_}
 use native.Mathlib.Omega.{arith}
 use borrow.Author.Tests.{lt-ltb, le-ltb, eq-eqb, ne-eqb}
 use lib.Dec.{eqb, ltb}
 use lib.Ieee.{Float}
 use lib.ListN.{take}
 use Rattle.tanner.specs.Checks.{Checks, Word, count}
-use Rattle.belief.specs.Rounds.{Decode, answers, decided, sent, firstMessages, initialWord, wordsFrom, roundWords, unlessDone, better, chosenFrom, chosen, chosenCount, chosenBits}
+use Rattle.belief.specs.Rounds.{Decode, firstMessages, initialWord, wordsFrom, roundWords, unlessDone, better, chosenFrom, chosen, chosenCount, chosenBits}
 use Rattle.belief.specs.Graph.{RoundDone, Kept}
 
 -- with `left` rounds to go from the messages ms: the kept word, and that the choice from here is the goal

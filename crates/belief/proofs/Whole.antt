@@ -1,5 +1,5 @@
 -- The decode put together: the initial word with its count and front, and the rounds where it does not satisfy every check. Assumes nothing.
-use mathlib.Core.Path.{_≡_, refl, sym, ap, subst, _∙_}
+use mathlib.Core.Path.{_≡_, sym, ap, subst, _∙_}
 use mathlib.Core.List.{List, map}
 use Prim.Native.Nat.{ℕ}
 use lib.Ieee.{Float, nan}
@@ -9,7 +9,7 @@ use Rattle.softmath.specs.declared.DecodeRule.{DecodeRule}
 use Rattle.softmath.specs.declared.SumKind.{SumKind}
 use Rattle.tanner.specs.Checks.{Word, count, countMasked}
 use Rattle.tanner.specs.Flat.{Below, rowsOf}
-use Rattle.belief.specs.Rounds.{Decode, initialWord, firstMessages, wordsFrom, chosenFrom, chosen}
+use Rattle.belief.specs.Rounds.{Decode, initialWord, wordsFrom, chosenFrom, chosen}
 use Rattle.belief.specs.Graph.{Graph, Kept, decodeAt}
 use Rattle.belief.proofs.AtGraph.{initial-bits, counted-word, first-law}
 use Rattle.belief.proofs.Loop.{none-run, some-run}

@@ -1,6 +1,6 @@
 -- The words of a decode and the chosen one, for every code: a larger limit only adds words, and the chosen word is the first of the least count.
 -- By induction over the rounds and over lists of words. Assumes nothing.
-use mathlib.Core.Path.{_≡_, refl, sym, ap, _∙_}
+use mathlib.Core.Path.{_≡_, refl, ap, _∙_}
 use mathlib.Core.Bool.{Bool, true, false, cond}
 use mathlib.Core.List.{List, [], _∷_, _++_}
 use Prim.Native.Nat.{ℕ, zero, suc, _+_, _<_, _≤_}
@@ -9,9 +9,9 @@ use native.Mathlib.Omega.{arith}
 use borrow.Author.Tests.{ltb-true, ltb-false}
 use lib.Dec.{eqb, ltb}
 use lib.Ieee.{Float}
-use lib.ListN.{length, getD}
+use lib.ListN.{length}
 use Rattle.tanner.specs.Checks.{Word, Checks, count}
-use Rattle.belief.specs.Rounds.{Decode, answers, decided, sent, wordsFrom, roundWords, firstMessages, initialWord, unlessDone, better, chosenFrom, chosen, chosenCount}
+use Rattle.belief.specs.Rounds.{Decode, answers, decided, sent, wordsFrom, roundWords, firstMessages, initialWord, better, chosenFrom, chosen, chosenCount}
 use Rattle.belief.specs.Chosen.{words, wordAt, FirstLeast}
 
 -- ---- a larger limit only adds words

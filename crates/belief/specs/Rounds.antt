@@ -1,5 +1,5 @@
 -- A decode (document 01, "Rounds"), over any check list: the words of the rounds run, and the chosen one.
-use mathlib.Core.Bool.{Bool, true, false, cond}
+use mathlib.Core.Bool.{cond}
 use mathlib.Core.List.{List, [], _∷_, _++_, map}
 use Prim.Native.Nat.{ℕ, zero, suc}
 use lib.Dec.{eqb, ltb}

@@ -1,18 +1,18 @@
 -- The quick form of the construction gives the definition's columns: its marks are the rows that a pick skips, its list of loads holds the loads,
 -- and its scan meets the same rows. Inductions over the columns, the rows and the lists.
 use mathlib.Core.Path.{_≡_, refl, sym, ap, _∙_}
-use mathlib.Core.Bool.{Bool, true, false, cond, not, _&&_, _||_, or-assoc}
-use mathlib.Core.List.{List, [], _∷_, _++_}
+use mathlib.Core.Bool.{Bool, true, false, cond, not, _&&_, _||_}
+use mathlib.Core.List.{List, [], _∷_}
 use Prim.Native.Nat.{ℕ, zero, suc, _+_, _-_, _%_, _≤_, _<_}
 use native.Mathlib.Nat.{mod-lt, zero-add, add-zero, add-suc, suc-add}
 use native.Mathlib.Omega.{arith}
 use lib.Dec.{leb, ltb, eqb, eqb·suc-zero}
-use lib.ListN.{length, getD, set, take, drop, replicate, length-set, length-take, length-drop, length-replicate, getD-replicate}
+use lib.ListN.{length, getD, set, take, drop, length-set, length-drop, length-replicate, getD-replicate}
 use lib.Seq.{getD-take, getD-drop, length-take-le}
 use Rattle.generator.specs.Draw.{draw}
-use Rattle.construction.specs.Columns.{Found, row, nothing, Picks, Made, holds, together, skipped, times, load, leastOf, search, settled, upFrom, pick, onePick, picks, insert, sorted, finished, nextColumn, made, rowsOf, laidBefore}
+use Rattle.construction.specs.Columns.{row, Made, holds, together, skipped, times, load, leastOf, search, settled, upFrom, pick, onePick, picks, insert, sorted, finished, nextColumn, made}
 use Rattle.construction.specs.Quick.{marked, markedIf, markedBy, marksOf, Best, best, none, lessOf, met, scan, foundIn, quickSearch, quickPick, loaded, Kept, quickOnePick, quickPicks, quickFinished, quickColumn, quickColumns, quick}
-use Rattle.construction.specs.Tables.{metRow, metRows, loadAt, flagAt, Flags, Loads}
+use Rattle.construction.specs.Tables.{metRow, metRows, loadAt, flagAt, Loads}
 use Rattle.construction.proofs.Searches.{met-round}
 use Rattle.construction.proofs.Marks.{flag-set-at, load-set-at, or-swap}
 use Rattle.construction.proofs.Picks.{search-same}

@@ -1,16 +1,15 @@
 -- What a column holds, read from its list: one row more at a time. Inductions over the list.
-use mathlib.Core.Path.{_≡_, refl, sym, ap, _∙_}
+use mathlib.Core.Path.{_≡_, refl}
 use mathlib.Core.Bool.{Bool, true, false, cond, _||_, or-assoc}
 use mathlib.Core.List.{List, [], _∷_, _++_}
 use Prim.Native.Nat.{ℕ, zero, suc, _+_, _-_, _≤_, _<_}
-use native.Mathlib.Nat.{add-assoc}
 use native.Mathlib.Numerals.{add-one}
 use native.Mathlib.Omega.{arith}
 use borrow.Author.Tests.{eq-eqb, ne-eqb}
 use lib.Dec.{eqb}
-use lib.ListN.{length, getD, set, take, drop, length-set, drop-of-length-le}
-use lib.Seq.{drop-cons, take-suc}
-use Rattle.construction.specs.Columns.{holds, times, Found, row, nothing, Choice, upFrom, onceRound, firstOutside, settled, sorted}
+use lib.ListN.{length, getD, set, drop, drop-of-length-le}
+use lib.Seq.{drop-cons}
+use Rattle.construction.specs.Columns.{holds, times, Found, row, nothing, upFrom, onceRound, firstOutside, settled, sorted}
 use Rattle.construction.proofs.Searches.{up-more, up-none}
 
 pub holds-append : (xs ys : List ℕ) (r : ℕ) → holds (xs ++ ys) r ≡ (holds xs r || holds ys r)

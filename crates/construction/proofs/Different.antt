@@ -1,18 +1,17 @@
 -- A column's three picks take different rows, for any earlier columns, any state and at least three rows: a pick never takes a row that the column holds.
 -- The search skips such rows, and among three rows one is free for the relaxed pick.
-use mathlib.Core.Path.{_≡_, refl, sym, ap, _∙_}
-use mathlib.Core.Bool.{Bool, true, false, cond, _||_, or-true, true≢false, false≢true}
+use mathlib.Core.Path.{_≡_, refl, sym, _∙_}
+use mathlib.Core.Bool.{Bool, true, false, cond, _||_, or-true, true≢false}
 use mathlib.Core.List.{List, [], _∷_, _++_}
 use Prim.Native.Nat.{ℕ, zero, suc, _+_, _-_, _%_, _≤_, _<_}
 use native.Mathlib.Nat.{mod-lt}
 use native.Mathlib.Decide.{decLt, ℕ-discrete}
 use native.Mathlib.Omega.{arith}
-use borrow.Author.Tests.{eq-eqb, ne-eqb, eqb-true, eqb-false}
+use borrow.Author.Tests.{ne-eqb, eqb-true, eqb-false}
 use lib.Dec.{ltb, eqb}
 use lib.Arith.{lt-of-le-ne}
 use lib.ListN.{length, length-append}
-use Rattle.generator.specs.Draw.{draw}
-use Rattle.construction.specs.Columns.{Found, row, nothing, Choice, upFrom, onceRound, holds, together, skipped, load, without, leastOf, firstLeast, search, firstOutside, settled, pick, onePick, picks, times}
+use Rattle.construction.specs.Columns.{Found, row, nothing, upFrom, onceRound, holds, together, skipped, load, without, leastOf, firstLeast, search, firstOutside, settled, pick, onePick, picks, times}
 use Rattle.construction.proofs.Columns.{holds-append}
 
 or-left : (a b : Bool) → (a || b) ≡ false → a ≡ false

@@ -7,9 +7,9 @@ use native.Mathlib.Numerals.{add-one}
 use native.Mathlib.Omega.{arith}
 use borrow.Rule.Slice.PartMut.{putMid}
 use lib.Dec.{leb}
-use lib.ListN.{length, getD, take, drop, replicate, getD-replicate, length-append, length-take, length-drop, length-replicate}
+use lib.ListN.{length, take, drop, replicate, getD-replicate, length-take, length-drop, length-replicate}
 use lib.Seq.{take-at, drop-at, take-add, length-take-le, take-length}
-use Rattle.construction.specs.Columns.{insert, sorted, picks, load, times, Made, finished, nextColumn, made, laidBefore, rowsOf}
+use Rattle.construction.specs.Columns.{insert, sorted, picks, load, finished, nextColumn, made, laidBefore, rowsOf}
 use Rattle.construction.specs.Tables.{columnAt, columnsIn, AllBelow, Loads, Loaded, Room, Ready, Picked, ColumnMade}
 use Rattle.construction.proofs.Columns.{times-le}
 use Rattle.construction.proofs.Picks.{columns-same}

@@ -1,17 +1,17 @@
 -- Flags and loads after stores: what one store does to each row, and what a column's stores do together. By cases on whether it is the row.
-use mathlib.Core.Path.{_≡_, refl, sym, ap, _∙_}
-use mathlib.Core.Bool.{Bool, true, false, cond, not, _&&_, _||_, or-assoc, or-comm, or-true, or-false}
+use mathlib.Core.Path.{_≡_, refl, sym, _∙_}
+use mathlib.Core.Bool.{Bool, true, false, cond, _&&_, _||_, or-assoc, or-true, or-false}
 use mathlib.Core.List.{List, [], _∷_, _++_, append-nil}
-use Prim.Native.Nat.{ℕ, zero, suc, _+_, _-_, _*_, _≤_, _<_}
+use Prim.Native.Nat.{ℕ, _+_, _-_, _*_, _≤_, _<_}
 use native.Mathlib.Numerals.{add-one}
 use native.Mathlib.Omega.{arith}
-use borrow.Author.Tests.{eq-eqb, ne-eqb, eqb-true, eqb-false}
+use borrow.Author.Tests.{eqb-true, eqb-false}
 use lib.Dec.{eqb}
-use lib.ListN.{length, getD, set, take, drop, length-set, length-take, replicate, getD-replicate, length-replicate}
+use lib.ListN.{length, getD, set, take, drop, length-set, length-take, replicate}
 use borrow.Author.Fill.{fill-more}
 use lib.Seq.{getD-set-same, getD-set-other, take-suc, drop-length, getD-take, getD-drop}
-use Rattle.construction.specs.Columns.{holds, times, together, skipped, load}
-use Rattle.construction.specs.Tables.{flagAt, columnAt, columnsIn, AllBelow, Marked, MarkedWith, AllMarked, Flags, Loads, Loaded, Room}
+use Rattle.construction.specs.Columns.{holds, times, together}
+use Rattle.construction.specs.Tables.{flagAt, columnAt, columnsIn, AllBelow, Marked, MarkedWith, AllMarked, Flags, Loaded, Room}
 use Rattle.construction.proofs.Columns.{holds-append, times-append, times-le}
 
 -- ---- one store

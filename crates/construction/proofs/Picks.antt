@@ -1,7 +1,7 @@
 -- A pick made from the loads and the flags of the columns is the pick of the definition; and three of them make a column.
 -- The search looks only at rows below m, where loads and flags are those of the columns.
 use mathlib.Core.Path.{_≡_, refl, sym, ap, _∙_}
-use mathlib.Core.Bool.{Bool, true, false, cond, _||_, or-assoc, or-comm, or-false}
+use mathlib.Core.Bool.{Bool, true, false, _||_, or-assoc, or-comm, or-false}
 use mathlib.Core.List.{List, [], _∷_, _++_}
 use Prim.Native.Nat.{ℕ, zero, suc, _+_, _-_, _*_, _%_, _≤_, _<_}
 use native.Mathlib.Nat.{mod-lt, zero-add, suc-add}
@@ -10,12 +10,12 @@ use native.Mathlib.Omega.{arith}
 use native.Mathlib.Decide.{decLt}
 use lib.Dec.{ltb, eqb}
 use lib.ListN.{length, getD, set, take, drop, length-set, length-take, length-drop, replicate, getD-replicate, length-replicate}
-use lib.Seq.{take-set-le, take-take, take-suc, take-add, getD-take, getD-drop, getD-set-same, getD-set-other, take-nil, drop-set-add, take-suc-set}
+use lib.Seq.{take-set-le, take-take, getD-take, getD-set-same, getD-set-other, take-nil, drop-set-add, take-suc-set}
 use Rattle.generator.specs.Draw.{draw}
-use Rattle.construction.specs.Columns.{Found, row, nothing, Choice, upFrom, search, leastOf, settled, pick, onePick, picks, skipped, load, together, times}
-use Rattle.construction.specs.Tables.{metRow, metRows, Below, loadAt, flagAt, columnAt, columnsIn, AllBelow, AllMarked, Flags, Loads, Loaded, Room, Ready, Placed, Picked}
+use Rattle.construction.specs.Columns.{Found, row, nothing, Choice, upFrom, search, leastOf, settled, pick, onePick, picks, skipped, load, together}
+use Rattle.construction.specs.Tables.{metRow, metRows, Below, loadAt, flagAt, columnAt, columnsIn, AllBelow, AllMarked, Flags, Loads, Ready, Placed, Picked}
 use Rattle.construction.proofs.Searches.{met-round}
-use Rattle.construction.proofs.Columns.{either-below, times-le}
+use Rattle.construction.proofs.Columns.{either-below}
 
 module _ (m : ℕ) (L L′ : ℕ → ℕ) (S S′ : ℕ → Bool) (loads : (r : ℕ) → r < m → L r ≡ L′ r) (flags : (r : ℕ) → r < m → S r ≡ S′ r) where
   met-same : (b : Bool) (r : ℕ) (f : Found) → r < m → Below m f → metRow L b r f ≡ metRow L′ b r f

@@ -8,7 +8,7 @@ use native.Mathlib.Nat.{mod-lt}
 use native.Mathlib.Omega.{arith}
 use lib.Dec.{leb, ltb}
 use lib.ListN.{length}
-use Rattle.construction.specs.Columns.{Found, row, nothing, upFrom, onceRound, holds, skipped, load, without, leastOf, firstLeast, search, firstOutside, settled, pick, onePick, picks, times, insert, sorted, finished, nextColumn, made}
+use Rattle.construction.specs.Columns.{row, upFrom, onceRound, holds, skipped, load, without, leastOf, firstLeast, search, firstOutside, settled, pick, onePick, picks, times, insert, sorted, finished, nextColumn, made}
 use Rattle.construction.proofs.Columns.{either-below}
 use Rattle.construction.proofs.Made.{sorted-length}
 use Rattle.construction.proofs.Agree.{times-sorted}

@@ -1,14 +1,14 @@
 -- Rows met one after another, with the best kept, are the first least loaded of the rows that are not skipped. Inductions over the rows.
-use mathlib.Core.Path.{_≡_, refl, sym, ap, _∙_}
-use mathlib.Core.Bool.{Bool, true, false, cond, not, _||_}
+use mathlib.Core.Path.{_≡_, refl, sym, _∙_}
+use mathlib.Core.Bool.{Bool, true, false, cond, not}
 use mathlib.Core.List.{List, [], _∷_, _++_}
-use Prim.Native.Nat.{ℕ, zero, suc, _+_, _-_, _≤_, _<_}
+use Prim.Native.Nat.{ℕ, suc, _+_, _-_, _≤_, _<_}
 use native.Mathlib.Numerals.{add-one}
 use native.Mathlib.Omega.{arith}
 use borrow.Author.Tests.{le-ltb, lt-ltb, eq-eqb, ne-eqb}
 use lib.Dec.{ltb, eqb}
-use lib.ListN.{length, getD, take, drop}
-use Rattle.construction.specs.Columns.{Found, row, nothing, upFrom, onceRound, holds, without, leastOf, firstLeast, search, firstOutside}
+use lib.ListN.{getD}
+use Rattle.construction.specs.Columns.{Found, row, nothing, upFrom, onceRound, without, leastOf, firstLeast, search}
 use Rattle.construction.specs.Tables.{metRow, metRows, Unbeaten, Below, loadAt, flagAt}
 
 module _ (L : ℕ → ℕ) (S : ℕ → Bool) where

@@ -1,6 +1,6 @@
 -- The rows of the message columns, as document 01 ("The staircase codes") has them: each column makes three picks.
 -- A column is the list of its rows; the columns made so far stand newest first.
-use mathlib.Core.Bool.{Bool, true, false, cond, not, _&&_, _||_}
+use mathlib.Core.Bool.{Bool, false, cond, not, _&&_, _||_}
 use mathlib.Core.List.{List, [], _∷_, _++_}
 use Prim.Native.Nat.{ℕ, zero, suc, _+_, _-_, _%_}
 use lib.Dec.{leb, ltb, eqb}

@@ -3,7 +3,7 @@
 use mathlib.Core.Bool.{Bool, true, false}
 use mathlib.Core.List.{List, [], _∷_, _++_}
 use Prim.Native.Nat.{ℕ, zero, suc, _+_, _%_}
-use lib.Dec.{ltb, eqb}
+use lib.Dec.{ltb}
 use lib.ListN.{getD, take, drop, set, replicate}
 use Rattle.generator.specs.Draw.{draw}
 use Rattle.construction.specs.Columns.{Found, row, nothing, Choice, Picks, Made, holds, settled, finished}

@@ -1,23 +1,19 @@
 -- The numbers of codes and rules, case by case, and what an accepted call answers. Assumes nothing.
-use mathlib.Core.Path.{_≡_, refl, sym, ap, subst, _∙_}
-use mathlib.Core.Bool.{not}
+use mathlib.Core.Path.{_≡_, refl, sym, ap, subst}
 use mathlib.Core.List.{List}
 use Prim.Native.Nat.{ℕ, zero, suc, _+_, _<_, _≤_}
-use native.Mathlib.Omega.{arith}
 use borrow.Author.Tests.{lt-ltb, le-ltb, eq-eqb}
-use lib.Dec.{eqb, ltb}
 use lib.Ieee.{Float}
 use lib.ListN.{length}
-use Rattle.refusal.specs.Outcome.{Outcome, accepted, judged, kept}
-use Rattle.construction.specs.Codes.{Code}
+use Rattle.refusal.specs.Outcome.{accepted, judged, kept}
 use Rattle.staircase.specs.Codes.{codeOf}
 use Rattle.softmath.specs.declared.DecodeRule.{DecodeRule}
-use Rattle.softmath.specs.declared.DecodeRule.the-variants.{SumProduct, MinSum, ScaledMinSum}
+use Rattle.softmath.specs.declared.DecodeRule.the-variants.{SumProduct}
 use Rattle.belief.specs.Rounds.{chosenCount, chosenBits}
 use Rattle.belief.specs.Chosen.{Chose}
 use Rattle.belief.specs.Graph.{cleared}
 use Rattle.decoders.specs.Decodes.{ruleOf, staircaseDecode, ft8Decode}
-use Rattle.decoders.specs.Calls.{frameRefusals, softWithRefusals, ft8Refusals}
+use Rattle.decoders.specs.Calls.{softWithRefusals, ft8Refusals}
 
 -- ---- numbers
 

@@ -7,7 +7,6 @@ use lib.Ieee.{Float}
 use lib.ListN.{length}
 use Rattle.refusal.specs.Outcome.{Outcome, accepted, refused, Condition, _when_}
 use Rattle.refusal.specs.Numbers.{numberOf}
-use Rattle.construction.specs.Codes.{Code}
 use Rattle.staircase.specs.Codes.{codeOf}
 use Rattle.decoders.specs.declared.Decoding.{Decoding}
 use Rattle.decoders.specs.declared.Decoding.the-variants.{Count, Refused}

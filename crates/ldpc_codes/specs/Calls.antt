@@ -1,14 +1,12 @@
 -- The outside calls of the staircase codes: when each is refused, and what it answers otherwise.
 use mathlib.Core.Bool.{not}
-use mathlib.Core.List.{List, [], _∷_, _++_}
-use Prim.Native.Nat.{ℕ, zero, suc, _+_}
+use mathlib.Core.List.{List, [], _∷_}
+use Prim.Native.Nat.{ℕ, suc, _+_}
 use lib.Dec.{eqb, ltb}
-use lib.ListN.{length, take, drop, set}
+use lib.ListN.{length, take, set}
 use Rattle.refusal.specs.Outcome.{Outcome, accepted, refused, Condition, _when_}
 use Rattle.refusal.specs.Numbers.{numberOf}
-use Rattle.construction.specs.Codes.{Code}
 use Rattle.tanner.specs.Checks.{Checks, count, countMasked, lowBits}
-use Rattle.tanner.specs.Flat.{rowsOf}
 use Rattle.staircase.specs.Staircase.{encoded}
 use Rattle.staircase.specs.Codes.{codeOf, columns, checks}
 use Rattle.ldpc_codes.specs.declared.Encoding.{Encoding}

@@ -1,5 +1,5 @@
 -- The three codes by number: their checks, as the construction gives them.
-use mathlib.Core.List.{List, [], _∷_, reverse}
+use mathlib.Core.List.{List, reverse}
 use Prim.Native.Nat.{ℕ, zero, suc}
 use Rattle.construction.specs.Columns.{made}
 use Rattle.construction.specs.Codes.{Code, n512r12, n576r23, n512r34}

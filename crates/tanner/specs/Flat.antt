@@ -1,5 +1,5 @@
 -- Lists laid flat, one after another, with the places where they start: how a code's checks and each bit's edges lie in arrays.
-use mathlib.Core.Bool.{Bool, cond}
+use mathlib.Core.Bool.{cond}
 use mathlib.Core.List.{List, [], _∷_, _++_}
 use Prim.Native.Nat.{ℕ, zero, suc, _+_, _-_, _<_, _≤_}
 use lib.Dec.{eqb}

@@ -1,7 +1,6 @@
 -- `batch::decode_batch` meets its contract: the numbers and lengths, the pairs, and then the frames. Assumes nothing.
-use mathlib.Core.Path.{_≡_, refl, sym, ap, _∙_}
-use native.Mathlib.Omega.{arith}
-use Rattle.batch.specs.Calls.{faultOf, batchRefusals, batchBits, batchCounts}
+use mathlib.Core.Path.{sym, ap, _∙_}
+use Rattle.batch.specs.Calls.{faultOf, batchRefusals}
 use Rattle.batch.proofs.Whole.{whole-head, whole-pairs, whole-good, pairs-within, all-refused, all-accepted}
 use borrow.Author.Needs.{needs}
 use Rattle.batch.proofs.decode_batch.Statement.{statement}

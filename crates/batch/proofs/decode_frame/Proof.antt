@@ -1,5 +1,5 @@
 -- `batch::decode_frame` meets its contract, code by code. Assumes nothing.
-use mathlib.Core.Path.{_≡_, refl, sym, ap, _∙_}
+use mathlib.Core.Path.{sym, _∙_}
 use native.Mathlib.Omega.{arith}
 use Rattle.batch.proofs.Sizes.{values-ft8, bits-ft8, values-staircase, size-small}
 use Rattle.batch.proofs.Frames.{frame-ft8, frame-staircase}

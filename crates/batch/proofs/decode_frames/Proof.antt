@@ -1,17 +1,17 @@
 -- `batch::decode_frames` meets its contract. The invariant: the bits written so far, with those of the frames ahead, are all bits; the counts
 -- written so far are the front of all counts; the work area stays cleared. Assumes nothing.
 use mathlib.Core.Path.{_≡_, refl, sym, ap, subst, _∙_}
-use mathlib.Core.List.{List, _++_, map}
+use mathlib.Core.List.{_++_, map}
 use Prim.Native.Nat.{ℕ, suc, _+_, _*_, _-_, _≤_, _<_}
 use native.Mathlib.Nat.{zero-mul, suc-mul}
 use native.Mathlib.Numerals.{add-one}
 use native.Mathlib.Omega.{arith}
-use lib.ListN.{length, take, drop, getD, set, length-set, length-map, length-append, length-take, length-drop}
-use lib.Seq.{length-take-le, take-all}
+use lib.ListN.{length, take, drop, getD, length-set, length-map}
+use lib.Seq.{length-take-le}
 use Rattle.tanner.specs.Flat.{joined}
 use Rattle.belief.specs.Graph.{cleared}
 use Rattle.belief.proofs.Fill.{fill-more, fill-done}
-use Rattle.batch.specs.Codes.{sizeN, sizeK}
+use Rattle.batch.specs.Codes.{sizeK}
 use Rattle.batch.specs.Pairs.{pairsOf, framesOf}
 use Rattle.batch.specs.Calls.{frameCount, frameBits, batchCounts, batchBits, AllWithin}
 use Rattle.batch.proofs.Sizes.{size-small}

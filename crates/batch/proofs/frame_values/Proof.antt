@@ -1,5 +1,5 @@
 -- `batch::frame_values` meets its contract, code by code. Assumes nothing.
-use mathlib.Core.Path.{_≡_, refl, sym, ap, _∙_}
+use mathlib.Core.Path.{_∙_}
 use Rattle.batch.proofs.Sizes.{values-ft8, values-staircase}
 use borrow.Author.Needs.{needs}
 use Rattle.batch.proofs.frame_values.Statement.{statement}

@@ -1,5 +1,5 @@
 -- `batch::message_bits` meets its contract, code by code. Assumes nothing.
-use mathlib.Core.Path.{_≡_, refl, sym, ap, _∙_}
+use mathlib.Core.Path.{_∙_}
 use Rattle.batch.proofs.Sizes.{bits-ft8, bits-staircase}
 use borrow.Author.Needs.{needs}
 use Rattle.batch.proofs.message_bits.Statement.{statement}

@@ -1,7 +1,5 @@
 -- `batch::pair_fault` meets its contract, test by test. Assumes nothing.
-use mathlib.Core.Path.{_≡_, refl, sym, ap, _∙_}
 use borrow.Author.Tests.{lt-ltb, le-ltb, eq-eqb, ne-eqb}
-use native.Mathlib.Omega.{arith}
 use borrow.Author.Needs.{needs}
 use Rattle.batch.proofs.pair_fault.Statement.{statement}
 use Rattle.batch.proofs.pair_fault.Tie as tie

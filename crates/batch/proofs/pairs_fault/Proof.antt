@@ -1,8 +1,8 @@
 -- `batch::pairs_fault` meets its contract. The invariant: what the rest of the pairs gives is what all give. Assumes nothing.
-use mathlib.Core.Path.{_≡_, refl, sym, ap, _∙_}
-use Prim.Native.Nat.{ℕ, _+_, _-_, _≤_, _<_}
+use mathlib.Core.Path.{_≡_, sym, ap, _∙_}
+use Prim.Native.Nat.{_+_, _-_, _≤_}
 use native.Mathlib.Omega.{arith}
-use lib.ListN.{length, drop, getD}
+use lib.ListN.{length, drop}
 use Rattle.batch.specs.Pairs.{pairsOf}
 use Rattle.batch.specs.Calls.{faultOf, pairRefusals}
 use Rattle.batch.proofs.Judged.{verdict}

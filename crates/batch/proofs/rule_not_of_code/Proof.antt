@@ -1,9 +1,6 @@
 -- `batch::rule_not_of_code` meets its contract, test by test. Assumes nothing.
-use mathlib.Core.Path.{_≡_, refl, sym, ap, _∙_}
-use borrow.Author.Tests.{lt-ltb, le-ltb, eq-eqb, ne-eqb}
-use native.Mathlib.Omega.{arith}
+use borrow.Author.Tests.{eq-eqb, ne-eqb}
 use Rattle.batch.specs.Calls.{ruleNotOfCode}
-use borrow.Author.Needs.{needs}
 use Rattle.batch.proofs.rule_not_of_code.Statement.{statement}
 use Rattle.batch.proofs.rule_not_of_code.Tie as tie
 

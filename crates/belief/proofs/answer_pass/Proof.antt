@@ -1,5 +1,5 @@
 -- `belief::answer_pass` meets its contract: the three passes, one after the other. Assumes nothing.
-use mathlib.Core.Path.{_≡_, refl, sym, ap, _∙_}
+use mathlib.Core.Path.{ap, _∙_}
 use mathlib.Core.List.{map}
 use Rattle.softmath.specs.CheckNode.{before, middle, after}
 use Rattle.belief.specs.Passes.{onFrom}

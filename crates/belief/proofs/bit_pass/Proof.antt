@@ -1,10 +1,8 @@
 -- `belief::bit_pass` meets its contract. The invariant: the word and the messages are as the turns so far leave them. Assumes nothing.
-use mathlib.Core.Path.{_≡_, refl, sym, ap, _∙_}
-use mathlib.Core.List.{List, [], _∷_, _++_, map}
-use Prim.Native.Nat.{ℕ, _+_, _-_, _≤_, _<_}
+use mathlib.Core.Path.{_≡_}
+use Prim.Native.Nat.{_+_, _-_, _≤_}
 use native.Mathlib.Omega.{arith}
-use lib.Ieee.{Float, nan}
-use lib.ListN.{length, take, drop, getD, set, length-set, length-map, List·getD-map}
+use lib.ListN.{length, getD, length-set}
 use Rattle.softmath.specs.VariableNode.{EdgesWithin}
 use Rattle.tanner.specs.Flat.{Below, Within}
 use Rattle.tanner.proofs.Steps.{part-below}

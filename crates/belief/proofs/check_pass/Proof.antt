@@ -1,10 +1,8 @@
 -- `belief::check_pass` meets its contract. The invariant: the rest of the checks done to what is there is all of them done to what was there. Assumes nothing.
-use mathlib.Core.Path.{_≡_, refl, sym, ap, _∙_}
-use mathlib.Core.List.{List, [], _∷_, _++_, map}
-use Prim.Native.Nat.{ℕ, _+_, _-_, _≤_, _<_}
+use mathlib.Core.Path.{_≡_}
+use Prim.Native.Nat.{_+_, _-_, _≤_, _<_}
 use native.Mathlib.Omega.{arith}
-use lib.Ieee.{Float, nan}
-use lib.ListN.{length, take, drop, getD, set, length-set, length-map, List·getD-map}
+use lib.ListN.{length, getD}
 use Rattle.softmath.specs.CheckNode.{middle}
 use Rattle.tanner.specs.Flat.{Within}
 use Rattle.belief.specs.Passes.{onFrom}

@@ -1,7 +1,6 @@
 -- `belief::choose` meets its contract: the initial word, its count and its front, and then the rounds. Assumes nothing.
-use mathlib.Core.Path.{_≡_, refl, sym, ap, _∙_}
+use mathlib.Core.Path.{sym, _∙_}
 use native.Mathlib.Omega.{arith}
-use lib.ListN.{length}
 use Rattle.belief.proofs.AtGraph.{graph-flat}
 use Rattle.belief.proofs.Whole.{initial-is, initial-kept}
 use borrow.Author.Needs.{needs}

@@ -1,8 +1,8 @@
 -- `belief::clear` meets its contract. The invariant: what is passed is +0.0. Assumes nothing.
-use mathlib.Core.Path.{_≡_, refl, sym, ap, _∙_}
-use Prim.Native.Nat.{ℕ, _+_, _-_, _≤_, _<_}
+use mathlib.Core.Path.{_≡_, sym}
+use Prim.Native.Nat.{_+_, _-_, _≤_}
 use native.Mathlib.Omega.{arith}
-use lib.ListN.{length, take, getD, set, replicate, length-set, length-replicate, getD-replicate}
+use lib.ListN.{length, take, replicate, length-set, length-replicate, getD-replicate}
 use Rattle.softmath.specs.Single.{zero32}
 use Rattle.belief.proofs.Fill.{fill-more, fill-done}
 use borrow.Author.Needs.{needs}

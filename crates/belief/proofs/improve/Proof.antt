@@ -1,5 +1,5 @@
 -- `belief::improve` meets its contract: no round where the initial word satisfies every check, else the rounds from the first messages. Assumes nothing.
-use mathlib.Core.Path.{_≡_, ap, _∙_}
+use mathlib.Core.Path.{ap, _∙_}
 use lib.ListN.{length}
 use Rattle.belief.proofs.AtGraph.{initial-length}
 use Rattle.belief.proofs.Whole.{run-none, run-some}

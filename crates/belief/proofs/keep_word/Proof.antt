@@ -1,8 +1,8 @@
 -- `belief::keep_word` meets its contract. The invariant: what is written so far is the front of the word. Assumes nothing.
-use mathlib.Core.Path.{_≡_, refl, sym, ap, _∙_}
-use Prim.Native.Nat.{ℕ, _+_, _-_, _≤_, _<_}
+use mathlib.Core.Path.{_≡_, sym}
+use Prim.Native.Nat.{_-_, _≤_}
 use native.Mathlib.Omega.{arith}
-use lib.ListN.{length, take, getD, set, length-set}
+use lib.ListN.{length, take, length-set}
 use lib.Seq.{length-take-le, getD-take}
 use Rattle.belief.proofs.Fill.{fill-more, fill-done}
 use borrow.Author.Needs.{needs}

@@ -1,5 +1,5 @@
 -- `belief::round` meets its contract: what its passes leave is a round of the definition. Assumes nothing.
-use mathlib.Core.Path.{_≡_, refl, sym, ap, _∙_}
+use mathlib.Core.Path.{_∙_}
 use Rattle.belief.proofs.AtGraph.{graph-some, graph-within, graph-bits, graph-flat, round-done}
 use borrow.Author.Needs.{needs}
 use Rattle.belief.proofs.round.Statement.{statement}

@@ -1,15 +1,13 @@
 -- `belief::rounds` meets its contract. The invariant: what is kept is the chosen word so far, and the choice from here is the choice among all. Assumes nothing.
-use mathlib.Core.Path.{_≡_, refl, sym, ap, subst, _∙_}
+use mathlib.Core.Path.{_≡_, refl, ap, _∙_}
 use mathlib.Core.Logic.{⊎-elim}
-use mathlib.Core.List.{List}
-use Prim.Native.Nat.{ℕ, suc, _+_, _-_, _≤_, _<_}
+use Prim.Native.Nat.{ℕ, suc, _+_, _-_, _≤_}
 use native.Mathlib.Nat.{sub-zero}
 use native.Mathlib.Omega.{arith}
 use lib.ListN.{length, take}
-use Rattle.tanner.specs.Checks.{Word, Checks}
 use Rattle.tanner.specs.Flat.{rowsOf}
-use Rattle.belief.specs.Rounds.{Decode, wordsFrom, chosenFrom, better}
-use Rattle.belief.specs.Graph.{RoundDone, Kept, decodeAt}
+use Rattle.belief.specs.Rounds.{wordsFrom, chosenFrom, better}
+use Rattle.belief.specs.Graph.{Kept, decodeAt}
 use Rattle.belief.proofs.Loop.{Running, kept-better, kept-same, round-on, round-out, rounds-out}
 use borrow.Author.Needs.{needs}
 use Rattle.belief.proofs.rounds.Statement.{statement}

@@ -1,10 +1,10 @@
 -- `construction::add_loads` meets its contract. The invariant: the rows passed are counted. Assumes nothing.
-use mathlib.Core.Path.{_≡_, refl, sym, _∙_}
+use mathlib.Core.Path.{_≡_, refl}
 use Prim.Native.Nat.{_-_, _≤_}
 use native.Mathlib.Omega.{arith}
 use lib.ListN.{length, take, length-set}
 use lib.Seq.{take-all}
-use Rattle.construction.specs.Tables.{AllBelow, Loaded, Room}
+use Rattle.construction.specs.Tables.{AllBelow, Loaded}
 use Rattle.construction.proofs.Marks.{loaded-none, loaded-more, loaded-room}
 use borrow.Author.Needs.{needs}
 use Rattle.construction.proofs.add_loads.Statement.{statement}

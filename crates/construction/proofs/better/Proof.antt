@@ -1,5 +1,5 @@
 -- `construction::better` meets its contract: each way out is one case of a row that is met. Assumes nothing.
-use mathlib.Core.Path.{_≡_, ap}
+use mathlib.Core.Path.{ap}
 use native.Mathlib.Omega.{arith}
 use Rattle.construction.specs.Tables.{Below, foundOf}
 use Rattle.construction.proofs.Searches.{below-row, met-skipped, met-only, met-less, met-other}

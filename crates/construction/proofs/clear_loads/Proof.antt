@@ -1,5 +1,5 @@
 -- `construction::clear_loads` meets its contract. The invariant: what is passed is zero, and the rest is as it was. Assumes nothing.
-use mathlib.Core.Path.{_≡_, refl, sym, _∙_}
+use mathlib.Core.Path.{_≡_, refl}
 use mathlib.Core.List.{_++_}
 use Prim.Native.Nat.{_-_, _≤_}
 use native.Mathlib.Omega.{arith}

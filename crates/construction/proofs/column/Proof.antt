@@ -1,6 +1,4 @@
 -- `construction::column` meets its contract: three picks, sorted and counted. Assumes nothing.
-use mathlib.Core.Path.{_≡_, refl, sym, _∙_}
-use native.Mathlib.Omega.{arith}
 use Rattle.construction.proofs.Made.{whole-column, v-below, room, column-made}
 use borrow.Author.Needs.{needs}
 use Rattle.construction.proofs.column.Statement.{statement}

@@ -1,6 +1,6 @@
 -- `construction::construct` meets its contract. The invariant: the first n columns are made. Assumes nothing.
-use mathlib.Core.Path.{_≡_, refl, sym, _∙_}
-use Prim.Native.Nat.{_-_, _*_, _≤_}
+use mathlib.Core.Path.{_≡_, refl, _∙_}
+use Prim.Native.Nat.{_-_, _≤_}
 use native.Mathlib.Omega.{arith}
 use lib.ListN.{length}
 use Rattle.construction.proofs.Made.{Built, built-none, built-more, built-rows}

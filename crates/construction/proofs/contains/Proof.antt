@@ -1,5 +1,5 @@
 -- `construction::contains` meets its contract. The invariant: the rows that are left hold the row where the column does. Assumes nothing.
-use mathlib.Core.Path.{_≡_, refl}
+use mathlib.Core.Path.{_≡_}
 use Prim.Native.Nat.{_-_, _≤_}
 use native.Mathlib.Omega.{arith}
 use lib.ListN.{length, drop}

@@ -1,11 +1,10 @@
 -- `construction::first_outside` meets its contract. The invariant: the first row outside among those that are left is the answer.
 -- Assumes nothing.
-use mathlib.Core.Path.{_≡_, refl, sym, _∙_}
+use mathlib.Core.Path.{_≡_, sym, _∙_}
 use mathlib.Core.Logic.{⊎-elim}
-use Prim.Native.Nat.{_-_, _≤_}
+use Prim.Native.Nat.{_-_}
 use native.Mathlib.Omega.{arith}
 use borrow.Author.Tests.{not-true, not-false}
-use lib.ListN.{length, drop}
 use Rattle.construction.specs.Columns.{upFrom, firstOutside}
 use Rattle.construction.proofs.Columns.{outside-more, outside-found, outside-done}
 use borrow.Author.Needs.{needs}

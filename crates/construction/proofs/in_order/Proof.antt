@@ -3,7 +3,6 @@ use Prim.Native.Nat.{_≤_}
 use native.Mathlib.Omega.{arith}
 use borrow.Author.Tests.{le-leb, lt-leb}
 use Rattle.construction.specs.Columns.{sorted, insert}
-use borrow.Author.Needs.{needs}
 use Rattle.construction.proofs.in_order.Statement.{statement}
 use Rattle.construction.proofs.in_order.Tie as tie
 use Rattle.construction.proofs.in_order.Reads as reads

@@ -1,7 +1,6 @@
 -- `construction::pick_row` meets its contract: a row that the search found, or the relaxed pick. Assumes nothing.
-use mathlib.Core.Path.{_≡_, sym, ap, _∙_}
+use mathlib.Core.Path.{sym, ap, _∙_}
 use native.Mathlib.Nat.{mod-lt}
-use native.Mathlib.Omega.{arith}
 use Rattle.construction.specs.Tables.{foundOf}
 use Rattle.construction.proofs.Searches.{below-row}
 use Rattle.construction.proofs.Columns.{settled-row, settled-relaxed, outside-below}

@@ -1,5 +1,4 @@
 -- `construction::search` meets its contract: the two parts are once round the rows. Assumes nothing.
-use native.Mathlib.Omega.{arith}
 use Rattle.construction.specs.Tables.{Below}
 use Rattle.construction.proofs.Searches.{parts-round}
 use borrow.Author.Needs.{needs}

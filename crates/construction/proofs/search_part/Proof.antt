@@ -1,8 +1,7 @@
 -- `construction::search_part` meets its contract. The invariant: the rows that are left, met after what was found, give the answer;
 -- where the loop is left early, they change nothing. Assumes nothing.
-use mathlib.Core.Path.{_≡_, refl, sym}
-use Prim.Native.Nat.{_-_, _≤_}
-use native.Mathlib.Omega.{arith}
+use mathlib.Core.Path.{_≡_, refl}
+use Prim.Native.Nat.{_-_}
 use lib.ListN.{length}
 use Rattle.construction.specs.Columns.{upFrom}
 use Rattle.construction.specs.Tables.{Below, foundOf, loadAt, flagAt, metRows}

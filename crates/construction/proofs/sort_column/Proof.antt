@@ -1,6 +1,4 @@
 -- `construction::sort_column` meets its contract: three stores to a list of three. Assumes nothing.
-use lib.ListN.{length-set}
-use native.Mathlib.Omega.{arith}
 use Rattle.construction.proofs.Columns.{three-stored}
 use borrow.Author.Needs.{needs}
 use Rattle.construction.proofs.sort_column.Statement.{statement}

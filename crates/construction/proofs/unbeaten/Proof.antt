@@ -3,7 +3,7 @@ use mathlib.Core.Path.{_≡_, ap}
 use Prim.Native.Nat.{ℕ}
 use native.Mathlib.Omega.{arith}
 use borrow.Author.Tests.{eqb-true}
-use Rattle.construction.specs.Tables.{Below, Unbeaten, foundOf}
+use Rattle.construction.specs.Tables.{Unbeaten, foundOf}
 use Rattle.construction.proofs.Searches.{below-row}
 use borrow.Author.Needs.{needs}
 use Rattle.construction.proofs.unbeaten.Statement.{statement}

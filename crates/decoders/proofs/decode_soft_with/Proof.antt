@@ -1,6 +1,6 @@
 -- `decoders::decode_soft_with` meets its contract: each refusal by its test, and the decode. Assumes nothing.
-use mathlib.Core.Path.{_≡_, refl, sym, ap, _∙_}
-use borrow.Author.Tests.{lt-ltb, le-ltb, lt-leb, eq-eqb, ne-eqb}
+use mathlib.Core.Path.{sym, _∙_}
+use borrow.Author.Tests.{lt-ltb, le-ltb, eq-eqb, ne-eqb}
 use native.Mathlib.Omega.{arith}
 use Rattle.decoders.proofs.Answers.{soft-accepted}
 use borrow.Author.Needs.{needs}

@@ -1,7 +1,6 @@
 -- `decoders::decode_staircase` meets its contract, code by code. Assumes nothing.
-use mathlib.Core.Path.{_≡_, refl, sym, ap, _∙_}
+use mathlib.Core.Path.{_≡_}
 use native.Mathlib.Omega.{arith}
-use Prim.Native.Nat.{ℕ}
 use Rattle.decoders.proofs.Answers.{at-code, length-at}
 use borrow.Author.Needs.{needs}
 use Rattle.decoders.proofs.decode_staircase.Statement.{statement}

@@ -1,7 +1,5 @@
 -- `decoders::ldpc_decode_soft` meets its contract: each refusal by its test, and the decode. Assumes nothing.
-use mathlib.Core.Path.{_≡_, refl, sym, ap, _∙_}
-use borrow.Author.Tests.{lt-ltb, le-ltb, lt-leb, eq-eqb, ne-eqb}
-use native.Mathlib.Omega.{arith}
+use borrow.Author.Tests.{lt-ltb, eq-eqb, ne-eqb}
 use Rattle.decoders.proofs.Answers.{ft8-accepted}
 use borrow.Author.Needs.{needs}
 use Rattle.decoders.proofs.ldpc_decode_soft.Statement.{statement}

@@ -1,5 +1,5 @@
 -- `decoders::rule_of` meets its contract, rule by rule. Assumes nothing.
-use mathlib.Core.Path.{_≡_, refl, sym, ap, _∙_}
+use mathlib.Core.Path.{refl}
 use Rattle.decoders.proofs.Answers.{rule-else}
 use borrow.Author.Needs.{needs}
 use Rattle.decoders.proofs.rule_of.Statement.{statement}

@@ -1,5 +1,5 @@
 -- `decoders::values_of` meets its contract, code by code. Assumes nothing.
-use mathlib.Core.Path.{_≡_, refl, sym, ap, _∙_}
+use mathlib.Core.Path.{refl}
 use Rattle.decoders.proofs.Answers.{values-else}
 use Rattle.decoders.proofs.values_of.Statement.{statement}
 use Rattle.decoders.proofs.values_of.Tie as tie

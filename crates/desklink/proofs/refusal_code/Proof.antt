@@ -1,5 +1,5 @@
 -- `desklink::refusal_code` meets its contract: the number taken from 0. Assumes nothing.
-use mathlib.Core.Path.{_≡_, sym, ap, _∙_}
+use mathlib.Core.Path.{ap, _∙_}
 use native.Mathlib.Omega.{arith}
 use Prim.Native.Nat.{ℕ}
 use lib.IntN.{pos, negℤ}

@@ -1,5 +1,4 @@
 -- `desklink::value_code` meets its contract: a number of 16 bits is the same number as an i32. Assumes nothing.
-use Prim.Native.Nat.{_^_}
 use Rattle.desklink.proofs.Signed.{short-pos}
 use borrow.Author.Needs.{needs}
 use Rattle.desklink.proofs.value_code.Statement.{statement}

@@ -1,5 +1,5 @@
 -- `ldpc_codes::copy_message` meets its contract. The invariant: what is passed is the message's, and the rest is as it was. Assumes nothing.
-use mathlib.Core.Path.{_≡_, refl, sym, _∙_}
+use mathlib.Core.Path.{_≡_, refl, _∙_}
 use mathlib.Core.List.{_++_}
 use Prim.Native.Nat.{_-_, _≤_}
 use native.Mathlib.Omega.{arith}

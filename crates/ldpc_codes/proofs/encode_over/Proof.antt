@@ -1,5 +1,5 @@
 -- `ldpc_codes::encode_over` meets its contract: each way out by the tests that led there. Assumes nothing.
-use mathlib.Core.Path.{_≡_, ap, _∙_}
+use mathlib.Core.Path.{ap, _∙_}
 use native.Mathlib.Omega.{arith}
 use borrow.Author.Tests.{eq-eqb, ne-eqb}
 use Rattle.tanner.specs.Flat.{rowsOf}

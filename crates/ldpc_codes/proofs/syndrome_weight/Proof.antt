@@ -1,5 +1,4 @@
 -- `ldpc_codes::syndrome_weight` meets its contract: each code's tables hold its checks. Assumes nothing.
-use mathlib.Core.Path.{_≡_}
 use Prim.Native.Nat.{_≤_}
 use native.Mathlib.Omega.{arith}
 use borrow.Author.Tests.{le-ltb}

@@ -1,10 +1,8 @@
 -- `ldpc_codes::weight_over` meets its contract. Assumes nothing.
-use mathlib.Core.Path.{_≡_, ap}
-use native.Mathlib.Omega.{arith}
+use mathlib.Core.Path.{ap}
 use borrow.Author.Tests.{lt-ltb, le-ltb}
 use Rattle.refusal.specs.Outcome.{accepted}
 use Rattle.ldpc_codes.proofs.Laid.{flat-longer}
-use borrow.Author.Needs.{needs}
 use Rattle.ldpc_codes.proofs.weight_over.Statement.{statement}
 use Rattle.ldpc_codes.proofs.weight_over.Tie as tie
 use Rattle.ldpc_codes.proofs.weight_over.Reads as reads

@@ -1,5 +1,5 @@
 -- `refusal::number` meets its contract, case by case: the match tells which refusal it is.
-use mathlib.Core.Path.{_≡_, sym, ap}
+use mathlib.Core.Path.{sym, ap}
 use Rattle.refusal.specs.Numbers.{numberOf}
 use borrow.Author.Needs.{needs}
 use Rattle.refusal.proofs.number.Statement.{statement}

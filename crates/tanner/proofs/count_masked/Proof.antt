@@ -1,9 +1,9 @@
 -- `tanner::count_masked` meets its contract. The invariant: what is counted so far, with what the rest counts, is the whole. Assumes nothing.
-use mathlib.Core.Path.{_≡_, refl}
+use mathlib.Core.Path.{_≡_}
 use mathlib.Core.Logic.{⊎-elim}
-use Prim.Native.Nat.{ℕ, _+_, _-_, _≤_, _<_}
+use Prim.Native.Nat.{_+_, _-_, _≤_, _<_}
 use native.Mathlib.Omega.{arith}
-use lib.ListN.{length, drop, getD}
+use lib.ListN.{length, getD}
 use Rattle.tanner.specs.Checks.{countMasked}
 use Rattle.tanner.specs.Flat.{rowsFrom, rowsOf, Within}
 use Rattle.tanner.proofs.Steps.{part-below, count-more, count-same, count-done}

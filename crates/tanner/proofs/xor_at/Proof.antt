@@ -1,8 +1,8 @@
 -- `tanner::xor_at` meets its contract. The invariant: what is XORed so far, with the rest XORed on, is the whole. Assumes nothing.
-use mathlib.Core.Path.{_≡_, refl}
-use Prim.Native.Nat.{_+_, _-_, _≤_, _<_}
+use mathlib.Core.Path.{_≡_}
+use Prim.Native.Nat.{_-_, _≤_}
 use native.Mathlib.Omega.{arith}
-use lib.ListN.{length, drop, getD}
+use lib.ListN.{length, drop}
 use Rattle.tanner.specs.Checks.{xorFrom}
 use Rattle.tanner.specs.Flat.{Below}
 use Rattle.tanner.proofs.Steps.{xor-more, xor-done}

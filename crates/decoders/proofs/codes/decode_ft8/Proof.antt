@@ -1,5 +1,4 @@
 -- `decoders::decode_ft8` meets its contract: the decode at the code's graph. Assumes nothing.
-use mathlib.Core.Path.{_≡_}
 use native.Mathlib.Omega.{arith}
 use Rattle.softmath.specs.declared.DecodeRule.the-variants.{Ft8}
 use Rattle.softmath.specs.declared.SumKind.the-variants.{Others}

@@ -1,5 +1,4 @@
 -- `decoders::codes::decode_n512r34` meets its contract: the decode at the code's graph. Assumes nothing.
-use mathlib.Core.Path.{_≡_}
 use native.Mathlib.Omega.{arith}
 use Rattle.softmath.specs.declared.SumKind.the-variants.{Total}
 use Rattle.construction.specs.Codes.{n512r34}
