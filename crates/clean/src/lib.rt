@@ -87,7 +87,7 @@ fn checksum_right(bits: &[u8]) -> bool
 
 // Whether a frame of that code with these values is clean: what it decoded to has that count and these bits.
 pub fn is_clean(code: u32, values: &[f32], count: u16, bits: &[u8]) -> bool
-    requires { ⌜ code ≡ 3 → length (now bits) ≡ 91 ⌝ }
+    requires { ⌜ (code ≡ 3 → length (now bits) ≡ 91) ⌝ }
     ensures { λ r. ⌜ r ≡ frameClean code (now (values .entry)) count (now (bits .entry)) ⌝ }
 {
     if count != 0 {
