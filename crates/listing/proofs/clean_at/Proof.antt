@@ -1,11 +1,14 @@
 -- `listing::clean_at` meets its contract. What pair j names lies within the values, and is the frame at place j. Assumes nothing.
 use native.Mathlib.Omega.{arith}
-use mathlib.Core.Path.{_≡_, sym, _∙_}
+use mathlib.Core.Path.{_≡_, sym, ap, _∙_}
+use mathlib.Core.List.{List}
 use Prim.Native.Nat.{ℕ, suc, _+_, _*_, _≤_, _<_}
+use lib.Ieee.{Float}
 use lib.ListN.{length, getD}
 use Rattle.batch.specs.Codes.{sizeN}
 use Rattle.batch.proofs.Sizes.{bits-ft8, size-small}
 use Rattle.batch.proofs.Frames.{pair-inside, frame-inside}
+use Rattle.clean.specs.Clean.{frameClean}
 use Rattle.listing.proofs.Frames.{frame-at}
 use borrow.Author.Needs.{needs}
 use Rattle.listing.proofs.clean_at.Statement.{statement}
@@ -63,8 +66,9 @@ is-clean-requires c κs =
 returns : tie.Need-returns
 returns c =
     let start = c .before .before .before .before .before .before .before in
-    let here = frame-at (start .args .values .now) (start .args .pairs .now) (sizeN (start .args .code)) (start .args .j) (start .pre .0) (start .pre .1 .0) in
-    rw here (rw (c .before .before .frame-values .ensures) at (c .is-clean .ensures))
+    let a = start .args in
+    let here = frame-at (a .values .now) (a .pairs .now) (sizeN (a .code)) (a .j) (start .pre .0) (start .pre .1 .0) in
+    c .is-clean .ensures ∙ ap (λ (v : List Float). frameClean (a .code) v (a .count) (a .bits .now)) (sym (rw (← c .before .before .frame-values .ensures) at here))
 
 pub clean-at-spec : {M : Type 1} → statement M
 clean-at-spec =
