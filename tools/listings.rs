@@ -1,10 +1,14 @@
-// Writes inputs of batchlist and the listings that belong to them, every frame decoded by the Rust's ldpc.rs and ldpc_codes.rs: document 01's
-// sample (crates/batchlist), the samples of each code (samples/), and the inputs that crates/listing_replay replays.
-// Built with ORION_SRC naming a folder that holds ldpc.rs and ldpc_codes.rs; run in the repository's root:
+// Writes inputs of batchlist and the listings that belong to them, every frame decoded by the Rust's ldpc.rs and ldpc_codes.rs and its checksum
+// taken by crc.rs: document 01's sample (crates/batchlist), the samples of each code (samples/), and the inputs that crates/listing_replay replays.
+// Built with ORION_SRC naming a folder that holds crc.rs, ldpc.rs and ldpc_codes.rs; run in the repository's root:
 //
 //     ORION_SRC=folder rustc --edition 2021 -O tools/listings.rs -o listings && ./listings
 //
 // The Rust has no batch and no refusals: the pairs' tests and the lines are written here anew from document 01.
+#[allow(dead_code)]
+mod crc {
+    include!(concat!(env!("ORION_SRC"), "/crc.rs"));
+}
 #[allow(dead_code)]
 mod ldpc {
     include!(concat!(env!("ORION_SRC"), "/ldpc.rs"));
@@ -91,16 +95,36 @@ fn refusal(codes: &Codes, code: u8, rule: u8, pairs: &[(u64, u64)], values: u64)
     pair_refusal(pairs, codes.n(code) as u64, values)
 }
 
+fn packed(bits: &[u8]) -> Vec<u8> {
+    let byte = |part: &[u8]| part.iter().enumerate().map(|(i, bit)| bit << (7 - i)).sum();
+    bits.chunks(8).map(byte).collect()
+}
+
 fn hex(bits: &[u8]) -> String {
     let mut text = String::new();
-    for part in bits.chunks(8) {
-        let mut byte = 0u8;
-        for (i, bit) in part.iter().enumerate() {
-            byte |= bit << (7 - i);
-        }
+    for byte in packed(bits) {
         write!(text, "{byte:02x}").unwrap();
     }
     text
+}
+
+// The block with the checksum that the Rust stores for its payload.
+fn checksummed(block: &[u8; ldpc::K_BYTES]) -> [u8; ldpc::K_BYTES] {
+    let mut stored = [0u8; ldpc::K_BYTES];
+    crc::ft8_add_crc(block[..10].try_into().unwrap(), &mut stored);
+    stored
+}
+
+// Change request N2: the count is 0, no value is NaN, and code 3's bits carry their payload's checksum.
+fn clean(code: u8, llr: &[f32], bits: &[u8], count: usize) -> bool {
+    if count != 0 || llr.iter().any(|v| v.is_nan()) {
+        return false;
+    }
+    if code != 3 {
+        return true;
+    }
+    let block = packed(bits).try_into().unwrap();
+    crc::ft8_extract_crc(&checksummed(&block)) == crc::ft8_extract_crc(&block)
 }
 
 fn listing(codes: &Codes, s: &[u8]) -> String {
@@ -124,7 +148,7 @@ fn listing(codes: &Codes, s: &[u8]) -> String {
     for (place, &(offset, length)) in pairs.iter().enumerate() {
         let llr = &values[offset as usize..(offset + length) as usize];
         let (bits, count) = codes.decode(code, rule, scale, limit, llr);
-        let state = if count == 0 { "clean" } else { "open" };
+        let state = if clean(code, llr, &bits, count) { "clean" } else { "open" };
         writeln!(text, "{place} {count} {state} {}", hex(&bits)).unwrap();
     }
     text
@@ -201,28 +225,49 @@ impl Random {
     }
 }
 
+// Any 91 bits in 12 bytes, as a rule with a wrong checksum.
+fn block(random: &mut Random) -> [u8; ldpc::K_BYTES] {
+    let mut block = [0u8; ldpc::K_BYTES];
+    for byte in block.iter_mut() {
+        *byte = random.word() as u8;
+    }
+    block[11] &= 0xE0;
+    block
+}
+
+fn encoded(block: &[u8; ldpc::K_BYTES]) -> Vec<u8> {
+    let mut word = [0u8; ldpc::N_BYTES];
+    ldpc::ldpc_encode(block, &mut word);
+    (0..ldpc::N).map(|i| word[i / 8] >> (7 - i % 8) & 1).collect()
+}
+
 fn codeword(codes: &Codes, code: u8, random: &mut Random) -> Vec<u8> {
     if code == 3 {
-        let mut message = [0u8; ldpc::K_BYTES];
-        for byte in message.iter_mut() {
-            *byte = random.word() as u8;
-        }
-        message[11] &= 0xE0;
-        let mut word = [0u8; ldpc::N_BYTES];
-        ldpc::ldpc_encode(&message, &mut word);
-        return (0..ldpc::N).map(|i| word[i / 8] >> (7 - i % 8) & 1).collect();
+        return encoded(&block(random));
     }
     let c = &codes.0[code as usize];
     let message: Vec<u8> = (0..c.k()).map(|_| random.word() as u8 & 1).collect();
     c.encode(&message)
 }
 
-// A random codeword's log-likelihood ratios after noise of that deviation; a positive value is a zero.
-fn noisy(codes: &Codes, code: u8, noise: f32, random: &mut Random) -> Vec<f32> {
+// A codeword whose frame is clean: that of code 3 carries its checksum.
+fn sent(codes: &Codes, code: u8, random: &mut Random) -> Vec<u8> {
+    if code == 3 {
+        return encoded(&checksummed(&block(random)));
+    }
     codeword(codes, code, random)
-        .iter()
+}
+
+// The word's log-likelihood ratios after noise of that deviation; a positive value is a zero.
+fn received(word: &[u8], noise: f32, random: &mut Random) -> Vec<f32> {
+    word.iter()
         .map(|&bit| 2.0 / (noise * noise) * (if bit == 0 { 1.0 } else { -1.0 } + noise * random.normal()))
         .collect()
+}
+
+// The same of a random codeword.
+fn noisy(codes: &Codes, code: u8, noise: f32, random: &mut Random) -> Vec<f32> {
+    received(&codeword(codes, code, random), noise, random)
 }
 
 // Malformed inputs, and some that are just not.
@@ -447,11 +492,73 @@ fn carried_inputs(codes: &Codes, random: &mut Random, all: &mut Vec<Vec<u8>>) {
     }
 }
 
+// The word as a frame with no noise.
+fn exact(word: &[u8]) -> Vec<f32> {
+    word.iter().map(|&bit| if bit == 0 { 4.0 } else { -4.0 }).collect()
+}
+
+// A frame of NaN alone; frames with one NaN, at the first place, the last and one between, beside clean neighbours; NaN between the frames alone.
+fn nan_inputs(codes: &Codes, random: &mut Random, all: &mut Vec<Vec<u8>>) {
+    for code in 0..4 {
+        let n = codes.n(code);
+        let frame = exact(&sent(codes, code, random));
+        for limit in [0, 20] {
+            let mut input = Input::new(code, 0, limit).frame(&vec![f32::NAN; n]).frame(&frame);
+            for place in [0, n / 2, n - 1] {
+                let mut spoilt = frame.clone();
+                spoilt[place] = f32::NAN;
+                input = input.frame(&spoilt).frame(&frame);
+            }
+            all.push(input.bytes());
+            let gap = [f32::NAN; 1];
+            all.push(Input::new(code, 0, limit).values(&gap).frame(&frame).values(&gap).frame(&frame).values(&gap).bytes());
+        }
+    }
+}
+
+// (174,91): the word of zeros; codewords that carry their checksum; codewords of a block with a checksum and one of its 91 bits changed, each in turn.
+fn checksum_inputs(codes: &Codes, random: &mut Random, all: &mut Vec<Vec<u8>>) {
+    all.push(Input::new(3, 0, 0).frame(&exact(&[0; ldpc::N])).bytes());
+    let mut right = Input::new(3, 0, 0);
+    for _ in 0..24 {
+        right = right.frame(&exact(&sent(codes, 3, random)));
+    }
+    all.push(right.bytes());
+    let block = checksummed(&block(random));
+    for from in (0..ldpc::K).step_by(24) {
+        let mut wrong = Input::new(3, 0, 0);
+        for i in from..ldpc::K.min(from + 24) {
+            let mut changed = block;
+            changed[i / 8] ^= 0x80 >> (i % 8);
+            wrong = wrong.frame(&exact(&encoded(&changed)));
+        }
+        all.push(wrong.bytes());
+    }
+}
+
+// Frames at several noises, each under limits from 0 to 30: once a frame is clean, it is clean under every larger limit.
+fn kept_inputs(codes: &Codes, random: &mut Random, all: &mut Vec<Vec<u8>>) {
+    for code in 0..4 {
+        for noise in [0.3, 0.4, 0.5, 0.6] {
+            let frame = received(&sent(codes, code, random), noise, random);
+            let mut before = false;
+            for limit in [0, 1, 2, 3, 4, 5, 10, 20, 30] {
+                let (bits, count) = codes.decode(code, 0, 0.0, limit, &frame);
+                let now = clean(code, &frame, &bits, count);
+                assert!(now || !before);
+                before = now;
+                all.push(Input::new(code, 0, limit).frame(&frame).bytes());
+            }
+        }
+    }
+}
+
 // Several noisy frames of one code.
 fn sample(codes: &Codes, code: u8, random: &mut Random) -> Vec<u8> {
     let mut input = Input::new(code, 0, 30);
     for noise in [0.3, 0.45, 0.55, 0.65, 0.9] {
-        input = input.frame(&noisy(codes, code, noise, random));
+        let word = sent(codes, code, random);
+        input = input.frame(&received(&word, noise, random));
     }
     input.bytes()
 }
@@ -479,6 +586,9 @@ fn main() {
     decoder_inputs(&codes, random, &mut all);
     batch_inputs(&codes, random, &mut all);
     carried_inputs(&codes, random, &mut all);
+    nan_inputs(&codes, random, &mut all);
+    checksum_inputs(&codes, random, &mut all);
+    kept_inputs(&codes, random, &mut all);
     let mut stdin = vec![];
     let mut stdout = String::new();
     for s in &all {

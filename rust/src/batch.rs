@@ -54,7 +54,7 @@ pub struct Batch<'a> {
     pub pairs: &'a [[u32; 2]],
     /// K places a pair, in place order.
     pub bits: &'a mut [u8],
-    /// One place a pair: how many checks the frame's chosen word leaves unsatisfied, 0 where it is clean.
+    /// One place a pair: how many checks the frame's chosen word leaves unsatisfied.
     pub counts: &'a mut [u16],
 }
 

@@ -3,9 +3,11 @@ use mathlib.Core.Path.{_≡_, refl}
 use mathlib.Core.Bool.{true, false}
 use mathlib.Core.List.{List, [], _∷_}
 use Prim.Native.Nat.{ℕ}
-use lib.Ieee.{ofBits, ofFields, odd, le, lt, eq}
+use lib.Ieee.{ofBits, ofFields, isNan, odd, le, lt, eq}
 use lib.ListN.{replicate}
-use Rattle.tanner.specs.Checks.{parity, count}
+use Rattle.crc.specs.Bits.{numberAfter}
+use Rattle.crc.specs.Qex.{bringDown, divide, qex}
+use Rattle.tanner.specs.Checks.{lowBits, parity, count}
 use Rattle.tanner.specs.Flat.{joined}
 use Rattle.ldpc.specs.Tables.{nm, numRows}
 use Rattle.ldpc.specs.Code174.{rowsOfSeven, checks}
@@ -14,6 +16,7 @@ use Rattle.belief.specs.Rounds.{initialWord, roundWords, chosenFrom, chosen, ch
 use Rattle.batch.specs.Codes.{sizeN, sizeK, decodeOf}
 use Rattle.batch.specs.Pairs as batch
 use Rattle.batch.specs.Calls.{ruleNotOfCode, pairRefusals, batchRefusals, frameCount, frameBits, batchCounts, batchBits}
+use Rattle.clean.specs.Clean.{anyNan, checksumRight, frameClean}
 use Rattle.listing.specs.Text.{leading, decimal, byteAt, hexDigit, hexFrom, hex}
 use Rattle.listing.specs.Lines.{field, headLine, cleanOrOpen, frameLine, frameLines, refusalLine, printed}
 use Rattle.listing.specs.Input.{u32sFrom, floatOf, pairsOf, valuesOf, malformed}
@@ -27,7 +30,7 @@ sample =
 
 -- document 01: it "prints exactly" these two lines
 pub sample-listing : listingOf sample ≡ 99 ∷ 111 ∷ 100 ∷ 101 ∷ 32 ∷ 51 ∷ 32 ∷ 114 ∷ 117 ∷ 108 ∷ 101 ∷ 32 ∷ 48 ∷ 32 ∷ 108 ∷ 105 ∷ 109 ∷ 105 ∷ 116 ∷ 32 ∷ 50 ∷ 48 ∷ 32 ∷ 102 ∷ 114 ∷ 97 ∷ 109 ∷ 101 ∷ 115 ∷ 32 ∷ 49 ∷ 10 ∷ 48 ∷ 32 ∷ 48 ∷ 32 ∷ 99 ∷ 108 ∷ 101 ∷ 97 ∷ 110 ∷ 32 ∷ 48 ∷ 48 ∷ 48 ∷ 48 ∷ 48 ∷ 48 ∷ 48 ∷ 48 ∷ 48 ∷ 48 ∷ 48 ∷ 48 ∷ 48 ∷ 48 ∷ 48 ∷ 48 ∷ 48 ∷ 48 ∷ 48 ∷ 48 ∷ 48 ∷ 48 ∷ 48 ∷ 48 ∷ 10 ∷ []
-unfolding sample joined listingOf programRefusals framesText printed headLine field decimal leading frameLines frameLine cleanOrOpen hex hexFrom hexDigit byteAt pairsOf valuesOf floatOf u32sFrom malformed sizeN sizeK batchRefusals pairRefusals batch.pairsOf batch.frameOf batchCounts batchBits frameCount frameBits decodeOf chosen chosenCount chosenBits chosenFrom initialWord roundWords parity count checks rowsOfSeven nm numRows decide ofBits ofFields odd le lt eq ruleNotOfCode
+unfolding sample joined listingOf programRefusals framesText printed headLine field decimal leading frameLines frameLine cleanOrOpen frameClean anyNan isNan checksumRight lowBits qex divide bringDown numberAfter hex hexFrom hexDigit byteAt pairsOf valuesOf floatOf u32sFrom malformed sizeN sizeK batchRefusals pairRefusals batch.pairsOf batch.frameOf batchCounts batchBits frameCount frameBits decodeOf chosen chosenCount chosenBits chosenFrom initialWord roundWords parity count checks rowsOfSeven nm numRows decide ofBits ofFields odd le lt eq ruleNotOfCode
 sample-listing = refl
 
 -- `refused 13`

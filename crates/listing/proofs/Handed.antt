@@ -1,7 +1,7 @@
 -- What the batch answers for the pairs handed on is what it answers for all of them. Assumes nothing.
 use mathlib.Core.Path.{_≡_, refl, sym, ap, _∙_}
 use mathlib.Core.Bool.{Bool, true, false, cond, not, _||_}
-use mathlib.Core.List.{List, [], _∷_}
+use mathlib.Core.List.{List, [], _∷_, _++_}
 use Prim.Native.Nat.{ℕ, zero, suc, _+_, _-_, _*_, _≤_, min}
 use native.Mathlib.Nat.{mul-le-mul}
 use native.Mathlib.Omega.{arith}
@@ -12,12 +12,14 @@ use lib.ListN.{length, getD, take, replicate, length-take, length-replicate}
 use lib.Seq.{take-all}
 use Rattle.softmath.specs.Single.{zero32}
 use Rattle.refusal.specs.Outcome.{Outcome, Condition, judged, kept}
-use Rattle.batch.specs.Codes.{sizeK}
+use Rattle.batch.specs.Codes.{sizeN, sizeK}
 use Rattle.batch.specs.Pairs as batch
-use Rattle.batch.specs.Calls.{batchRefusals}
+use Rattle.batch.specs.Calls.{headRefusals, pairRefusals, batchRefusals, AllWithin}
+use Rattle.batch.proofs.Judged.{verdict, nothing, passed-by}
+use Rattle.batch.proofs.Whole.{head-good, batch-within}
 use Rattle.listing.specs.Input.{codeOf, ruleOf, pairCount, valuesStart, pairsOf, valuesOf, malformed, u32At, u32sFrom}
 use Rattle.listing.specs.Lines.{withText, printed}
-use Rattle.listing.specs.Listing.{callRefusals, callBits, callCounts, programRefusals, framesText, listingOf, held}
+use Rattle.listing.specs.Listing.{callRefusals, callPairs, callFrames, callBits, callCounts, programRefusals, framesText, listingOf, held}
 use Rattle.listing.proofs.Load.{words-length}
 
 -- ---- an input that is not malformed
@@ -139,27 +141,31 @@ passed s n e = by (ltb 50 (2 * pairCount s)) refl
 
 -- ---- the answer
 
+-- the text of the frames of these pairs, with these counts and bits
+abbrev textOf : List ℕ → List ℕ → List ℕ → List ℕ → List ℕ
+textOf s pairs counts bits = framesText s (sizeK (codeOf s)) (callFrames (valuesOf s) pairs) counts bits
+
+-- the same with what the batch gives for them
+abbrev decodedText : List ℕ → List ℕ → List ℕ
+decodedText s pairs = textOf s pairs (callCounts s (valuesOf s) pairs) (callBits s (valuesOf s) pairs)
+
 -- the answer to these pairs, with these outputs lent
 abbrev pub answered : List ℕ → List ℕ → List ℕ → List ℕ → Outcome (List ℕ)
 answered s pairs counts bits =
     let cs = callRefusals s (valuesOf s) pairs bits counts in
-    withText (judged cs tt) (framesText s (sizeK (codeOf s)) (kept cs counts (callCounts s (valuesOf s) pairs)) (kept cs bits (callBits s (valuesOf s) pairs)))
+    withText (judged cs tt) (textOf s pairs (kept cs counts (callCounts s (valuesOf s) pairs)) (kept cs bits (callBits s (valuesOf s) pairs)))
 
--- the text of the frames of these pairs
-abbrev framesOf : List ℕ → List ℕ → List ℕ
-framesOf s pairs = framesText s (sizeK (codeOf s)) (callCounts s (valuesOf s) pairs) (callBits s (valuesOf s) pairs)
-
-answered-is : (s pairs counts bits : List ℕ) → answered s pairs counts bits ≡ judged (callRefusals s (valuesOf s) pairs bits counts) (framesOf s pairs)
+answered-is : (s pairs counts bits : List ℕ) → answered s pairs counts bits ≡ judged (callRefusals s (valuesOf s) pairs bits counts) (decodedText s pairs)
 answered-is s pairs counts bits =
-    answer-text (callRefusals s (valuesOf s) pairs bits counts) (framesText s (sizeK (codeOf s))) counts (callCounts s (valuesOf s) pairs) bits (callBits s (valuesOf s) pairs)
+    answer-text (callRefusals s (valuesOf s) pairs bits counts) (textOf s pairs) counts (callCounts s (valuesOf s) pairs) bits (callBits s (valuesOf s) pairs)
 
 -- what is handed on has the listing's answer
 pub same-answer : (s counts bits : List ℕ) → malformed s ≡ false → length counts ≡ held (pairCount s) → length bits ≡ held (pairCount s) * sizeK (codeOf s)
-    → answered s (take 50 (pairsOf s)) counts bits ≡ judged (programRefusals s) (framesOf s (pairsOf s))
+    → answered s (take 50 (pairsOf s)) counts bits ≡ judged (programRefusals s) (decodedText s (pairsOf s))
 unfolding programRefusals
 same-answer s counts bits h cl bl = by (ltb (pairCount s) 25) refl
   where
-    by : (b : Bool) → ltb (pairCount s) 25 ≡ b → answered s (take 50 (pairsOf s)) counts bits ≡ judged (programRefusals s) (framesOf s (pairsOf s))
+    by : (b : Bool) → ltb (pairCount s) 25 ≡ b → answered s (take 50 (pairsOf s)) counts bits ≡ judged (programRefusals s) (decodedText s (pairsOf s))
     by true e =
         let few = ltb-true (pairCount s) 25 e in
         let size = pairs-length s in
@@ -172,7 +178,7 @@ same-answer s counts bits h cl bl = by (ltb (pairCount s) 25) refl
         let size = pairs-length s in
         let size′ = length-take 50 (pairsOf s) in
         answered-is s (take 50 (pairsOf s)) counts bits
-        ∙ rw h (too-many (codeOf s) (ruleOf s) (valuesOf s) (take 50 (pairsOf s)) (pairsOf s) bits (replicate (pairCount s * sizeK (codeOf s)) 0) counts (replicate (pairCount s) 0) (replicate 3070 zero32) (framesOf s (take 50 (pairsOf s))) (framesOf s (pairsOf s)) (omega arith) (omega arith))
+        ∙ rw h (too-many (codeOf s) (ruleOf s) (valuesOf s) (take 50 (pairsOf s)) (pairsOf s) bits (replicate (pairCount s * sizeK (codeOf s)) 0) counts (replicate (pairCount s) 0) (replicate 3070 zero32) (decodedText s (take 50 (pairsOf s))) (decodedText s (pairsOf s)) (omega arith) (omega arith))
 
 -- the text of the answer to what is handed on is the listing
 pub listing-is : (s : List ℕ) (values : List Float) (pairs counts₀ bits₀ counts bits : List ℕ) (k : ℕ) (answer : Outcome Unit)
@@ -181,8 +187,29 @@ pub listing-is : (s : List ℕ) (values : List Float) (pairs counts₀ bits₀ c
     → answer ≡ judged (callRefusals s values pairs bits₀ counts₀) tt
     → counts ≡ kept (callRefusals s values pairs bits₀ counts₀) counts₀ (callCounts s values pairs)
     → bits ≡ kept (callRefusals s values pairs bits₀ counts₀) bits₀ (callBits s values pairs)
-    → printed (withText answer (framesText s k counts bits)) ≡ listingOf s
+    → printed (withText answer (framesText s k (callFrames values pairs) counts bits)) ≡ listingOf s
 unfolding listingOf
 listing-is s values pairs counts₀ bits₀ counts bits k answer good v p size cl bl a c b =
     let full : length bits₀ ≡ held (pairCount s) * sizeK (codeOf s) = rw size at bl in
     rw (a, c, b, v, p, size) (ap printed (same-answer s counts₀ bits₀ good cl full))
+
+-- ---- an accepted answer
+
+accepted-front : (xs ys : List Condition) → verdict (xs ++ ys) ≡ nothing → verdict xs ≡ nothing
+accepted-front [] ys e = refl
+accepted-front (c ∷ xs) ys e =
+    let p = passed-by (c .holds) (c .number) (verdict (xs ++ ys)) e in
+    rw (p .not-held) (accepted-front xs ys (p .others))
+
+places-of : (code rule : ℕ) (values : List Float) (pairs bits counts : List ℕ) (work : List Float) → verdict (batchRefusals code rule values pairs bits counts work) ≡ nothing
+    → length counts ≡ length (callPairs pairs)
+unfolding batchRefusals
+places-of code rule values pairs bits counts work e =
+    head-good code rule (length (callPairs pairs)) (length bits) (length counts) (length work) (accepted-front (headRefusals code rule (length (callPairs pairs)) (length bits) (length counts) (length work)) (pairRefusals (sizeN code) (length values) 0 (callPairs pairs)) e) .places
+
+-- its pairs lie within the values, and each has a place among the counts
+pub accepted-pairs : (s : List ℕ) (values : List Float) (pairs bits counts : List ℕ) → verdict (callRefusals s values pairs bits counts) ≡ nothing
+    → AllWithin (sizeN (codeOf s)) (length values) (callPairs pairs) × (length counts ≡ length (callPairs pairs))
+accepted-pairs s values pairs bits counts e =
+    let area = replicate 3070 zero32 in
+    (batch-within (codeOf s) (ruleOf s) values pairs bits counts area e, places-of (codeOf s) (ruleOf s) values pairs bits counts area e)

@@ -1,5 +1,6 @@
 -- The lengths of the listing's texts, as sums over their parts. Assumes nothing.
 use mathlib.Core.Path.{_≡_, refl}
+use mathlib.Core.Bool.{Bool}
 use mathlib.Core.List.{List}
 use Prim.Native.Nat.{ℕ, _+_}
 use native.Mathlib.Omega.{arith}
@@ -19,9 +20,9 @@ pub head-length : (code rule limit frames : ℕ) → length (headLine code rule 
 unfolding headLine
 head-length code rule limit frames = simp length-append
 
-pub frame-length : (place count : ℕ) (bits : List ℕ) → length (frameLine place count bits) ≡ length (decimal place) + (1 + (length (decimal count) + (length (cleanOrOpen count) + (length (hex bits) + 1))))
+pub frame-length : (place count : ℕ) (clean : Bool) (bits : List ℕ) → length (frameLine place count clean bits) ≡ length (decimal place) + (1 + (length (decimal count) + (length (cleanOrOpen clean) + (length (hex bits) + 1))))
 unfolding frameLine
-frame-length place count bits = simp length-append (omega arith)
+frame-length place count clean bits = simp length-append (omega arith)
 
 pub refusal-length : (number : ℕ) → length (refusalLine number) ≡ length (field refusedWord number) + 1
 unfolding refusalLine

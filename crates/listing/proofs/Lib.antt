@@ -5,4 +5,5 @@ pub mod Load
 pub mod Bounds
 pub mod Handed
 pub mod Room
+pub mod Limits
 pub mod Cases

@@ -3,3 +3,4 @@ pub mod Text
 pub mod Lines
 pub mod Input
 pub mod Listing
+pub mod Limits

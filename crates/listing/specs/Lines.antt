@@ -1,10 +1,11 @@
 -- The lines of a listing (document 01, "The program"). A text is the list of its ASCII codes.
-use mathlib.Core.Bool.{cond}
+use mathlib.Core.Bool.{Bool, cond}
 use mathlib.Core.List.{List, [], _∷_, _++_}
 use Prim.Native.Nat.{ℕ, _+_}
-use lib.Dec.{eqb}
+use lib.Ieee.{Float}
 use lib.ListN.{take, drop}
 use Rattle.refusal.specs.Outcome.{Outcome, accepted, refused}
+use Rattle.clean.specs.Clean.{frameClean}
 use Rattle.listing.specs.Text.{decimal, hex}
 
 -- ---- words, with the spaces around them
@@ -53,18 +54,21 @@ field word n = word ++ decimal n
 unfoldable pub headLine : ℕ → ℕ → ℕ → ℕ → List ℕ
 headLine code rule limit frames = field codeWord code ++ (field ruleWord rule ++ (field limitWord limit ++ (field framesWord frames ++ newline)))
 
--- "A frame is clean when its count is 0."
-unfoldable pub cleanOrOpen : ℕ → List ℕ
-cleanOrOpen count = cond (eqb count 0) cleanWord openWord
+-- the word of a frame that is clean, or is not
+unfoldable pub cleanOrOpen : Bool → List ℕ
+cleanOrOpen clean = cond clean cleanWord openWord
 
 -- "Fields of a frame line: place, count, `clean` or `open`, bits packed .. in lower-case hexadecimal": `0 0 clean 00..`
-unfoldable pub frameLine : ℕ → ℕ → List ℕ → List ℕ
-frameLine place count bits = decimal place ++ (space ++ (decimal count ++ (cleanOrOpen count ++ (hex bits ++ newline))))
+unfoldable pub frameLine : ℕ → ℕ → Bool → List ℕ → List ℕ
+frameLine place count clean bits = decimal place ++ (space ++ (decimal count ++ (cleanOrOpen clean ++ (hex bits ++ newline))))
 
--- the lines of the frames from `place` on, of k bits each
-unfoldable pub frameLines : ℕ → ℕ → List ℕ → List ℕ → List ℕ
-frameLines k place [] bits = []
-frameLines k place (count ∷ counts) bits = frameLine place count (take k bits) ++ frameLines k (place + 1) counts (drop k bits)
+-- The lines of the frames from `place` on, each of its values, its count and its k bits. Change request N2: "A frame is clean when its count is 0,
+-- none of its values is NaN, and, for code 3, the checksum that `ft8_add_crc` would store for its 77 payload bits equals the one it carries."
+unfoldable pub frameLines : ℕ → ℕ → ℕ → List (List Float) → List ℕ → List ℕ → List ℕ
+frameLines code k place frames [] bits = []
+frameLines code k place [] (count ∷ counts) bits = []
+frameLines code k place (values ∷ frames) (count ∷ counts) bits =
+    frameLine place count (frameClean code values count (take k bits)) (take k bits) ++ frameLines code k (place + 1) frames counts (drop k bits)
 
 -- "A refusal prints only one line, as `refused 13`, with the number that applies."
 unfoldable pub refusalLine : ℕ → List ℕ

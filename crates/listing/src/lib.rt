@@ -1,16 +1,18 @@
 // The listing of a batch: the program's input read, and what is printed for it written into a lent buffer.
 use batch::Batched;
 ghost use mathlib.Core.Path.{_≡_};
-ghost use mathlib.Core.List.{_∷_, []};
+ghost use mathlib.Core.List.{[], _∷_};
 ghost use Prim.Native.Nat.{_+_, _*_, _<_, _≤_, min};
 ghost use mathlib.Core.Bool.{false};
-ghost use lib.ListN.{length, take};
-ghost use Rattle.refusal.specs.Outcome.{judged, kept};
-ghost use Rattle.batch.specs.Calls.{batchedOf};
+ghost use lib.ListN.{length, take, getD};
+ghost use Rattle.refusal.specs.Outcome.{accepted, judged, kept};
+ghost use Rattle.batch.specs.Codes.{sizeN, sizeK};
+ghost use Rattle.batch.specs.Calls.{batchedOf, AllWithin};
+ghost use Rattle.clean.specs.Clean.{frameClean};
 ghost use Rattle.listing.specs.Written.{Written};
 ghost use Rattle.listing.specs.Text.{leading, decimal, bitAt, byteAt, hexDigit, hexByte, hex};
-ghost use Rattle.listing.specs.Input.{u16At, u32At, u32sFrom, floatOf, pairCount, valuesStart, pairsOf, valuesOf, malformed};
-ghost use Rattle.listing.specs.Listing.{callRefusals, callBits, callCounts, framesText, listingOf, held};
+ghost use Rattle.listing.specs.Input.{codeOf, u16At, u32At, u32sFrom, floatOf, pairCount, valuesStart, pairsOf, valuesOf, malformed};
+ghost use Rattle.listing.specs.Listing.{callRefusals, callPairs, callFrames, callBits, callCounts, framesText, listingOf, held};
 ghost use Rattle.listing.specs.Lines.{field, headLine, cleanOrOpen, frameLine, frameLines, refusalLine, printed, withText};
 
 // ---- texts and numbers, each written at a place of the buffer; the answer is the place after it
@@ -138,41 +140,66 @@ fn head_line(out: &mut [u8], at: usize, code: u16, rule: u16, limit: u16, frames
     put_byte(out, d, 10)
 }
 
-fn clean_or_open(out: &mut [u8], at: usize, count: u16) -> usize
-    requires { ⌜ at + length (cleanOrOpen count) ≤ length (now out) ⌝ }
-    ensures { λ r. ⌜ Written (now (out .entry)) at (cleanOrOpen count) (now (out .exit)) r ⌝ }
+fn clean_or_open(out: &mut [u8], at: usize, clean: bool) -> usize
+    requires { ⌜ at + length (cleanOrOpen clean) ≤ length (now out) ⌝ }
+    ensures { λ r. ⌜ Written (now (out .entry)) at (cleanOrOpen clean) (now (out .exit)) r ⌝ }
 {
-    if count == 0 {
+    if clean {
         return put_text(out, at, b" clean ");
     }
     put_text(out, at, b" open ")
 }
 
-fn frame_line(out: &mut [u8], at: usize, place: u16, count: u16, bits: &[u8]) -> usize
-    requires { ⌜ at + length (frameLine place count (now bits)) ≤ length (now out) ⌝ }
-    ensures { λ r. ⌜ Written (now (out .entry)) at (frameLine place count (now (bits .entry))) (now (out .exit)) r ⌝ }
+fn frame_line(out: &mut [u8], at: usize, place: u16, count: u16, clean: bool, bits: &[u8]) -> usize
+    requires { ⌜ at + length (frameLine place count clean (now bits)) ≤ length (now out) ⌝ }
+    ensures { λ r. ⌜ Written (now (out .entry)) at (frameLine place count clean (now (bits .entry))) (now (out .exit)) r ⌝ }
 {
     let a = put_decimal(out, at, place);
     let b = put_byte(out, a, 32);
     let c = put_decimal(out, b, count);
-    let d = clean_or_open(out, c, count);
+    let d = clean_or_open(out, c, clean);
     let e = put_hex(out, d, bits);
     put_byte(out, e, 10)
 }
 
-// The lines of the frames, of k bits each.
-fn frame_lines(out: &mut [u8], at: usize, k: usize, counts: &[u16], bits: &[u8]) -> usize
+// Whether the frame that pair j names is clean, with that count and these bits.
+fn clean_at(code: u32, values: &[f32], pairs: &[u32], j: usize, count: u16, bits: &[u8]) -> bool
+    requires { ⌜ AllWithin (sizeN code) (length (now values)) (callPairs (now pairs)) ⌝ }
+    requires { ⌜ j < length (callPairs (now pairs)) ⌝ }
+    requires { ⌜ length (now bits) ≡ sizeK code ⌝ }
+    ensures { λ r. ⌜ r ≡ frameClean code (getD (callFrames (now (values .entry)) (now (pairs .entry))) j []) count (now (bits .entry)) ⌝ }
+{
+    let from = pairs[j * 2] as usize;
+    let to = from + batch::frame_values(code);
+    clean::is_clean(code, &values[from..to], count, bits)
+}
+
+// The lines of the frames that the pairs name, of k bits each.
+fn frame_lines(
+    out: &mut [u8],
+    at: usize,
+    code: u32,
+    k: usize,
+    values: &[f32],
+    pairs: &[u32],
+    counts: &[u16],
+    bits: &[u8],
+) -> usize
     requires { ⌜ length (now counts) ≤ 24 ⌝ }
+    requires { ⌜ k ≡ sizeK code ⌝ }
+    requires { ⌜ AllWithin (sizeN code) (length (now values)) (callPairs (now pairs)) ⌝ }
+    requires { ⌜ length (now counts) ≡ length (callPairs (now pairs)) ⌝ }
     requires { ⌜ length (now bits) ≡ length (now counts) * k ⌝ }
-    requires { ⌜ at + length (frameLines k 0 (now counts) (now bits)) ≤ length (now out) ⌝ }
-    ensures { λ r. ⌜ Written (now (out .entry)) at (frameLines k 0 (now (counts .entry)) (now (bits .entry))) (now (out .exit)) r ⌝ }
+    requires { ⌜ at + length (frameLines code k 0 (callFrames (now values) (now pairs)) (now counts) (now bits)) ≤ length (now out) ⌝ }
+    ensures { λ r. ⌜ Written (now (out .entry)) at (frameLines code k 0 (callFrames (now (values .entry)) (now (pairs .entry))) (now (counts .entry)) (now (bits .entry))) (now (out .exit)) r ⌝ }
 {
     let mut next = at;
     let mut from = 0;
     let mut j = 0;
     while j < counts.len() {
         let to = from + k;
-        next = frame_line(out, next, j as u16, counts[j], &bits[from..to]);
+        let clean = clean_at(code, values, pairs, j, counts[j], &bits[from..to]);
+        next = frame_line(out, next, j as u16, counts[j], clean, &bits[from..to]);
         from = to;
         j += 1;
     }
@@ -344,40 +371,54 @@ fn decode_input(
 }
 
 // The head line and the frames' lines.
-fn write_frames(input: &[u8], k: usize, counts: &[u16], bits: &[u8], out: &mut [u8]) -> usize
-    requires { ⌜ 12 ≤ length (now input) ⌝ }
-    requires { ⌜ length (now counts) ≤ 24 ⌝ }
-    requires { ⌜ length (now bits) ≡ length (now counts) * k ⌝ }
-    requires { ⌜ length (framesText (now input) k (now counts) (now bits)) ≤ length (now out) ⌝ }
-    ensures { λ r. ⌜ Written (now (out .entry)) 0 (framesText (now (input .entry)) k (now (counts .entry)) (now (bits .entry))) (now (out .exit)) r ⌝ }
-{
-    let code = input[0] as u16;
-    let rule = input[1] as u16;
-    let limit = u16_at(input, 2);
-    let frames = u16_at(input, 8);
-    let at = head_line(out, 0, code, rule, limit, frames);
-    frame_lines(out, at, k, counts, bits)
-}
-
-// The batch's answer as text.
-fn write_answer(
-    answer: Batched,
+fn write_frames(
     input: &[u8],
     k: usize,
+    values: &[f32],
+    pairs: &[u32],
     counts: &[u16],
     bits: &[u8],
     out: &mut [u8],
 ) -> usize
     requires { ⌜ 12 ≤ length (now input) ⌝ }
     requires { ⌜ length (now counts) ≤ 24 ⌝ }
-    requires { ⌜ k ≤ 384 ⌝ }
+    requires { ⌜ k ≡ sizeK (codeOf (now input)) ⌝ }
+    requires { ⌜ AllWithin (sizeN (codeOf (now input))) (length (now values)) (callPairs (now pairs)) ⌝ }
+    requires { ⌜ length (now counts) ≡ length (callPairs (now pairs)) ⌝ }
+    requires { ⌜ length (now bits) ≡ length (now counts) * k ⌝ }
+    requires { ⌜ length (framesText (now input) k (callFrames (now values) (now pairs)) (now counts) (now bits)) ≤ length (now out) ⌝ }
+    ensures { λ r. ⌜ Written (now (out .entry)) 0 (framesText (now (input .entry)) k (callFrames (now (values .entry)) (now (pairs .entry))) (now (counts .entry)) (now (bits .entry))) (now (out .exit)) r ⌝ }
+{
+    let code = input[0];
+    let rule = input[1] as u16;
+    let limit = u16_at(input, 2);
+    let frames = u16_at(input, 8);
+    let at = head_line(out, 0, code as u16, rule, limit, frames);
+    frame_lines(out, at, code as u32, k, values, pairs, counts, bits)
+}
+
+// The batch's answer as text: the frames' lines where it is accepted, and its pairs lie within the values.
+fn write_answer(
+    answer: Batched,
+    input: &[u8],
+    k: usize,
+    values: &[f32],
+    pairs: &[u32],
+    counts: &[u16],
+    bits: &[u8],
+    out: &mut [u8],
+) -> usize
+    requires { ⌜ 12 ≤ length (now input) ⌝ }
+    requires { ⌜ length (now counts) ≤ 24 ⌝ }
+    requires { ⌜ k ≡ sizeK (codeOf (now input)) ⌝ }
+    requires { ⌜ (batchedOf answer ≡ accepted tt → AllWithin (sizeN (codeOf (now input))) (length (now values)) (callPairs (now pairs)) × (length (now counts) ≡ length (callPairs (now pairs)))) ⌝ }
     requires { ⌜ length (now bits) ≡ length (now counts) * k ⌝ }
     requires { ⌜ 4096 ≤ length (now out) ⌝ }
-    ensures { λ r. ⌜ Written (now (out .entry)) 0 (printed (withText (batchedOf answer) (framesText (now (input .entry)) k (now (counts .entry)) (now (bits .entry))))) (now (out .exit)) r ⌝ }
+    ensures { λ r. ⌜ Written (now (out .entry)) 0 (printed (withText (batchedOf answer) (framesText (now (input .entry)) k (callFrames (now (values .entry)) (now (pairs .entry))) (now (counts .entry)) (now (bits .entry))))) (now (out .exit)) r ⌝ }
     ensures { λ r. ⌜ r ≤ 4096 ⌝ }
 {
     match answer {
-        Batched::Done => write_frames(input, k, counts, bits, out),
+        Batched::Done => write_frames(input, k, values, pairs, counts, bits, out),
         Batched::Refused(r) => refusal_line(out, 0, refusal::number(r) as u16),
     }
 }
@@ -397,7 +438,16 @@ fn list_frames(input: &[u8], values: &[f32], pairs: &[u32], out: &mut [u8]) -> u
     let mut bits = bits_room();
     let mut counts = counts_room();
     let answer = decode_input(input, values, pairs, &mut bits[..size], &mut counts[..n]);
-    write_answer(answer, input, k, &counts[..n], &bits[..size], out)
+    write_answer(
+        answer,
+        input,
+        k,
+        values,
+        pairs,
+        &counts[..n],
+        &bits[..size],
+        out,
+    )
 }
 
 // The number of words of the pairs handed on.

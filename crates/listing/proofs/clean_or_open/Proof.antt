@@ -1,5 +1,4 @@
--- `listing::clean_or_open` meets its contract. A count of 0 is one branch, any other count the other. Assumes nothing.
-use borrow.Author.Tests.{eq-eqb, ne-eqb}
+-- `listing::clean_or_open` meets its contract. Each word is one branch. Assumes nothing.
 use Rattle.listing.specs.Lines.{cleanOrOpen}
 use borrow.Author.Needs.{needs}
 use Rattle.listing.proofs.clean_or_open.Statement.{statement}
@@ -10,28 +9,28 @@ slice-aggregate-put-text c = search needs
 
 put-text-requires : tie.Need-put-text-requires
 unfolding cleanOrOpen
-put-text-requires c κs = rw (eq-eqb (c .before .before .before .before .args .count) 0 (c .before .before .if1 .taken)) at (c .before .before .before .before .pre)
+put-text-requires c κs = rw (c .before .before .if1 .taken) at (c .before .before .before .before .pre)
 
 same-length : tie.Need-same-length
 same-length c = search needs
 
 returns : tie.Need-returns
 unfolding cleanOrOpen
-returns c = rw (eq-eqb (c .before .before .before .before .before .before .before .args .count) 0 (c .before .before .before .before .before .if1 .taken)) (c .before .before .put-text .ensures)
+returns c = rw (c .before .before .before .before .before .if1 .taken) (c .before .before .put-text .ensures)
 
 slice-aggregate-put-text-2 : tie.Need-slice-aggregate-put-text-2
 slice-aggregate-put-text-2 c = search needs
 
 put-text-requires-2 : tie.Need-put-text-requires-2
 unfolding cleanOrOpen
-put-text-requires-2 c κs = rw (ne-eqb (c .before .before .before .before .args .count) 0 (c .before .before .if1 .left)) at (c .before .before .before .before .pre)
+put-text-requires-2 c κs = rw (c .before .before .if1 .left) at (c .before .before .before .before .pre)
 
 same-length-2 : tie.Need-same-length-2
 same-length-2 c = search needs
 
 returns-2 : tie.Need-returns-2
 unfolding cleanOrOpen
-returns-2 c = rw (ne-eqb (c .before .before .before .before .before .before .before .args .count) 0 (c .before .before .before .before .before .if1 .left)) (c .before .before .put-text2 .ensures)
+returns-2 c = rw (c .before .before .before .before .before .if1 .left) (c .before .before .put-text2 .ensures)
 
 pub clean-or-open-spec : {M : Type 1} → statement M
 clean-or-open-spec =

@@ -8,22 +8,22 @@ use Rattle.listing.proofs.frame_line.Statement.{statement}
 use Rattle.listing.proofs.frame_line.Tie as tie
 
 put-decimal-requires : tie.Need-put-decimal-requires
-put-decimal-requires c κs = omega (arith, frame-length (c .before .before .before .args .place) (c .before .before .before .args .count) (c .before .before .before .args .bits .now))
+put-decimal-requires c κs = omega (arith, frame-length (c .before .before .before .args .place) (c .before .before .before .args .count) (c .before .before .before .args .clean) (c .before .before .before .args .bits .now))
 
 put-byte-requires : tie.Need-put-byte-requires
-put-byte-requires c κs = omega (arith, frame-length (c .before .before .before .before .before .before .before .args .place) (c .before .before .before .before .before .before .before .args .count) (c .before .before .before .before .before .before .before .args .bits .now))
+put-byte-requires c κs = omega (arith, frame-length (c .before .before .before .before .before .before .before .args .place) (c .before .before .before .before .before .before .before .args .count) (c .before .before .before .before .before .before .before .args .clean) (c .before .before .before .before .before .before .before .args .bits .now))
 
 put-decimal-requires-2 : tie.Need-put-decimal-requires-2
-put-decimal-requires-2 c κs = omega (arith, frame-length (c .before .before .before .before .before .before .before .before .before .before .before .args .place) (c .before .before .before .before .before .before .before .before .before .before .before .args .count) (c .before .before .before .before .before .before .before .before .before .before .before .args .bits .now))
+put-decimal-requires-2 c κs = omega (arith, frame-length (c .before .before .before .before .before .before .before .before .before .before .before .args .place) (c .before .before .before .before .before .before .before .before .before .before .before .args .count) (c .before .before .before .before .before .before .before .before .before .before .before .args .clean) (c .before .before .before .before .before .before .before .before .before .before .before .args .bits .now))
 
 clean-or-open-requires : tie.Need-clean-or-open-requires
-clean-or-open-requires c κs = omega (arith, frame-length (c .before .before .before .before .before .before .before .before .before .before .before .before .before .before .before .args .place) (c .before .before .before .before .before .before .before .before .before .before .before .before .before .before .before .args .count) (c .before .before .before .before .before .before .before .before .before .before .before .before .before .before .before .args .bits .now))
+clean-or-open-requires c κs = omega (arith, frame-length (c .before .before .before .before .before .before .before .before .before .before .before .before .before .before .before .args .place) (c .before .before .before .before .before .before .before .before .before .before .before .before .before .before .before .args .count) (c .before .before .before .before .before .before .before .before .before .before .before .before .before .before .before .args .clean) (c .before .before .before .before .before .before .before .before .before .before .before .before .before .before .before .args .bits .now))
 
 put-hex-requires : tie.Need-put-hex-requires
-put-hex-requires c κs = omega (arith, frame-length (c .before .before .before .before .before .before .before .before .before .before .before .before .before .before .before .before .before .before .before .args .place) (c .before .before .before .before .before .before .before .before .before .before .before .before .before .before .before .before .before .before .before .args .count) (c .before .before .before .before .before .before .before .before .before .before .before .before .before .before .before .before .before .before .before .args .bits .now))
+put-hex-requires c κs = omega (arith, frame-length (c .before .before .before .before .before .before .before .before .before .before .before .before .before .before .before .before .before .before .before .args .place) (c .before .before .before .before .before .before .before .before .before .before .before .before .before .before .before .before .before .before .before .args .count) (c .before .before .before .before .before .before .before .before .before .before .before .before .before .before .before .before .before .before .before .args .clean) (c .before .before .before .before .before .before .before .before .before .before .before .before .before .before .before .before .before .before .before .args .bits .now))
 
 put-byte-requires-2 : tie.Need-put-byte-requires-2
-put-byte-requires-2 c κs = omega (arith, frame-length (c .before .before .before .before .before .before .before .before .before .before .before .before .before .before .before .before .before .before .before .before .before .before .before .args .place) (c .before .before .before .before .before .before .before .before .before .before .before .before .before .before .before .before .before .before .before .before .before .before .before .args .count) (c .before .before .before .before .before .before .before .before .before .before .before .before .before .before .before .before .before .before .before .before .before .before .before .args .bits .now))
+put-byte-requires-2 c κs = omega (arith, frame-length (c .before .before .before .before .before .before .before .before .before .before .before .before .before .before .before .before .before .before .before .before .before .before .before .args .place) (c .before .before .before .before .before .before .before .before .before .before .before .before .before .before .before .before .before .before .before .before .before .before .before .args .count) (c .before .before .before .before .before .before .before .before .before .before .before .before .before .before .before .before .before .before .before .before .before .before .before .args .clean) (c .before .before .before .before .before .before .before .before .before .before .before .before .before .before .before .before .before .before .before .before .before .before .before .args .bits .now))
 
 same-length : tie.Need-same-length
 same-length c = search needs
@@ -38,7 +38,7 @@ returns c =
     let a = b .before .before .before .before in
     let z = a .before .before .before .before in
     let start = z .before .before .before .before in
-    let room = frame-length (start .args .place) (start .args .count) (start .args .bits .now) in
+    let room = frame-length (start .args .place) (start .args .count) (start .args .clean) (start .args .bits .now) in
     then (z .put-decimal .ensures) (omega arith)
     (then (a .put-byte .ensures) (omega arith)
     (then (b .put-decimal2 .ensures) (omega arith)

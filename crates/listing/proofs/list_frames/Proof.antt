@@ -5,7 +5,7 @@ use mathlib.Core.List.{_++_}
 use Prim.Native.Nat.{ℕ, _+_, _-_, _*_, _≤_}
 use lib.ListN.{length, take, drop, getD}
 use Rattle.listing.specs.Listing.{held}
-use Rattle.listing.proofs.Handed.{wellformed, held-few, message-short, bits-fit, listing-is}
+use Rattle.listing.proofs.Handed.{wellformed, held-few, message-short, bits-fit, listing-is, accepted-pairs}
 use Rattle.listing.proofs.Room.{part-length, left-length, back, back-fits, back-length}
 use borrow.Author.Needs.{needs}
 use Rattle.listing.proofs.list_frames.Statement.{statement}
@@ -175,7 +175,10 @@ write-answer-requires c κs =
     let ckept = c .before .before .before .before .before .decode-input .kept .1 .1 .1 .1 .0 in
     let cl = back-length croom n cfits counts ckept in
     let bl = back-length broom (n * k) bfits bits bkept in
-    (wellformed (c .before .before .before .before .before .before .before .before .before .before .before .before .before .before .before .before .before .before .args .input .now) (c .before .before .before .before .before .before .before .before .before .before .before .before .before .before .before .before .before .before .pre .0) .head, (rw (back croom n cfits counts ckept) (omega (arith, left-length croom n cfits counts ckept)), (short, (sym bl ∙ ap (λ (m : ℕ). m * k) cl, c .before .before .before .before .before .before .before .before .before .before .before .before .before .before .before .before .before .before .pre .1 .1 .1))))
+    let start = c .before .before .before .before .before .before .before .before .before .before .before .before .before .before .before .before .before .before in
+    let answer = c .before .before .before .before .before .decode-input .ensures .0 in
+    let named = accepted-pairs (start .args .input .now) (start .args .values .now) (start .args .pairs .now) (take (n * k) broom) (take n croom) in
+    (wellformed (start .args .input .now) (start .pre .0) .head, (rw (back croom n cfits counts ckept) (omega (arith, left-length croom n cfits counts ckept)), (c .before .before .before .before .before .before .before .before .before .before .message-bits .ensures, ((λ e. (named (sym answer ∙ e) .0, sym cl ∙ part-length croom n cfits ∙ named (sym answer ∙ e) .1)), (sym bl ∙ ap (λ (m : ℕ). m * k) cl, start .pre .1 .1 .1)))))
 
 same-length : tie.Need-same-length
 same-length c = search needs

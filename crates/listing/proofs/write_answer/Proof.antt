@@ -1,8 +1,12 @@
 -- `listing::write_answer` meets its contract. An answer with no number is followed by the frames' lines. Assumes nothing.
 use native.Mathlib.Omega.{arith}
-use mathlib.Core.Path.{refl}
+use mathlib.Core.Path.{refl, ap}
+use Rattle.batch.specs.Calls.{batchedOf}
+use Rattle.listing.specs.Input.{codeOf}
 use Rattle.listing.specs.Lines.{printed, withText}
+use Rattle.listing.specs.Listing.{callFrames}
 use Rattle.listing.proofs.Bounds.{frames-short, refusal-short}
+use Rattle.listing.proofs.Handed.{message-short}
 use borrow.Author.Needs.{needs}
 use Rattle.listing.proofs.write_answer.Statement.{statement}
 use Rattle.listing.proofs.write_answer.Tie as tie
@@ -12,9 +16,10 @@ enum-told c = search needs
 
 write-frames-requires : tie.Need-write-frames-requires
 write-frames-requires c κs =
-    let start = c .before .before .before .before .before .before .before in
-    let short = frames-short (start .args .input .now) (start .args .k) (start .args .counts .now) (start .args .bits .now) (start .pre .1 .1 .0) (start .pre .1 .0) in
-    (start .pre .0, (start .pre .1 .0, (start .pre .1 .1 .1 .0, omega arith)))
+    let start = c .before .before .before .before .before .before .before .before .before in
+    let short = frames-short (start .args .input .now) (start .args .k) (callFrames (start .args .values .now) (start .args .pairs .now)) (start .args .counts .now) (start .args .bits .now) (rw (start .pre .1 .1 .0) (message-short (codeOf (start .args .input .now)))) (start .pre .1 .0) in
+    let fits = start .pre .1 .1 .1 .0 (ap batchedOf (c .before .enum-told .given .1)) in
+    (start .pre .0, (start .pre .1 .0, (start .pre .1 .1 .0, (fits .0, (fits .1, (start .pre .1 .1 .1 .1 .0, omega arith))))))
 
 enum-known-answer : tie.Need-enum-known-answer
 enum-known-answer c = search needs
@@ -34,8 +39,8 @@ same-length c = search needs
 returns : tie.Need-returns
 unfolding printed withText
 returns c =
-    let start = c .before .before .before .before .before .before .before .before .before .before in
-    let short = frames-short (start .args .input .now) (start .args .k) (start .args .counts .now) (start .args .bits .now) (start .pre .1 .1 .0) (start .pre .1 .0) in
+    let start = c .before .before .before .before .before .before .before .before .before .before .before .before in
+    let short = frames-short (start .args .input .now) (start .args .k) (callFrames (start .args .values .now) (start .args .pairs .now)) (start .args .counts .now) (start .args .bits .now) (rw (start .pre .1 .1 .0) (message-short (codeOf (start .args .input .now)))) (start .pre .1 .0) in
     (rw (c .before .before .before .before .enum-told .given .1) (c .before .before .write-frames .ensures), omega arith)
 
 same-length-2 : tie.Need-same-length-2
