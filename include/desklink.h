@@ -1,6 +1,6 @@
 /* desklink.h: the C interface of libdesklink.a (`rt staticlib desklink` writes it to target/staticlib).
  *
- * Answers. Every call answers one int32_t: a value or a count from 0 up, or a refusal as minus its number, -1 to -13 or -16.
+ * Answers. Every call answers one int32_t: a value or a count from 0 up, or a refusal as minus its number, -1 to -13 or -16 to -18.
  * A refused call has written nothing. A call that only writes answers 0.
  *
  * Slices. A slice is passed as a pointer and then the number of its elements. The pointer is never null (a slice of
@@ -41,7 +41,9 @@ enum desklink_refusal {
     DESKLINK_PAIR_ORDER = -11,      /* a pair starts below the end of the one before */
     DESKLINK_PAIR_PAST_END = -12,   /* a pair ends past the values */
     DESKLINK_MALFORMED = -13,       /* a program's input is malformed; no call here answers it */
-    DESKLINK_UNKNOWN_BYTE = -16     /* a byte of a word to be mended is above 2 */
+    DESKLINK_UNKNOWN_BYTE = -16,    /* a byte of a word to be mended is above 2 */
+    DESKLINK_BYTE_OUT_OF_RANGE = -17, /* a soft byte is -128 */
+    DESKLINK_NOT_EIGHTHS = -18      /* a value is no soft byte's */
 };
 
 /* The CRC-14 of the first num_bits bits of message, most significant bit first: 0 to 0x3FFF. */
@@ -89,6 +91,13 @@ int32_t desklink_decode_batch(uint32_t code, uint32_t rule, uint16_t limit, floa
  * set. places: N numbers, of which the first ones are written: the positions that were set, in the order in which they
  * were. How many were set. */
 int32_t desklink_mend(uint32_t code, uint8_t *word, size_t word_len, uint16_t *places, size_t places_len);
+
+/* Soft bytes, -127 to 127 in eighths, and values, as many of one as of the other; where positive_is_one is not 0, the
+ * bytes are of a model that counts positive as 1. Either call undoes the other. */
+int32_t desklink_values_of_bytes(const int8_t *bytes, size_t bytes_len, uint32_t positive_is_one, float *values,
+                                 size_t values_len);
+int32_t desklink_bytes_of_values(const float *values, size_t values_len, uint32_t positive_is_one, int8_t *bytes,
+                                 size_t bytes_len);
 
 #ifdef __cplusplus
 }

@@ -19,10 +19,12 @@ pub enum Refusal {
     PairPastEnd = 12,
     Malformed = 13,
     UnknownByte = 16,
+    ByteOutOfRange = 17,
+    NotEighths = 18,
 }
 
 impl Refusal {
-    const ALL: [Refusal; 14] = [
+    const ALL: [Refusal; 16] = [
         Refusal::UnknownCode,
         Refusal::UnknownRule,
         Refusal::RuleNotOfCode,
@@ -37,9 +39,11 @@ impl Refusal {
         Refusal::PairPastEnd,
         Refusal::Malformed,
         Refusal::UnknownByte,
+        Refusal::ByteOutOfRange,
+        Refusal::NotEighths,
     ];
 
-    /// The number, 1 to 13 or 16.
+    /// The number, 1 to 13 or 16 to 18.
     ///
     /// ```
     /// assert_eq!(desklink::Refusal::MessageSlack.number(), 6);
@@ -71,6 +75,8 @@ impl fmt::Display for Refusal {
             Refusal::PairPastEnd => "a pair ends past the values: pass all the values that the pairs name",
             Refusal::Malformed => "the input is malformed",
             Refusal::UnknownByte => "a byte of the word to be mended is above 2: write 0 or 1 for a known bit, and 2 for an unknown one",
+            Refusal::ByteOutOfRange => "a soft byte is -128: soft bytes go from -127 to 127",
+            Refusal::NotEighths => "a value is no soft byte's: eight times it must be a whole number from -127 to 127, and -0.0 is none",
         })
     }
 }

@@ -58,6 +58,8 @@ mod ffi {
             work_len: usize,
         ) -> i32;
         pub fn desklink_mend(code: u32, word: *mut u8, word_len: usize, places: *mut u16, places_len: usize) -> i32;
+        pub fn desklink_values_of_bytes(bytes: *const i8, bytes_len: usize, positive_is_one: u32, values: *mut f32, values_len: usize) -> i32;
+        pub fn desklink_bytes_of_values(values: *const f32, values_len: usize, positive_is_one: u32, bytes: *mut i8, bytes_len: usize) -> i32;
     }
 }
 
@@ -215,4 +217,20 @@ pub fn decode_batch(
 /// ```
 pub fn mend(code: u32, word: &mut [u8], places: &mut [u16]) -> Result<u16, Refusal> {
     answer(unsafe { ffi::desklink_mend(code, word.as_mut_ptr(), word.len(), places.as_mut_ptr(), places.len()) })
+}
+
+/// Soft bytes in eighths, -127 to 127, to as many values, negated for a model that counts positive as 1.
+///
+/// ```
+/// let mut values = [9.0; 3];
+/// desklink::slices::values_of_bytes(&[8, 0, -1], true, &mut values).unwrap();
+/// assert_eq!(values, [-1.0, 0.0, 0.125]);
+/// ```
+pub fn values_of_bytes(bytes: &[i8], positive_is_one: bool, values: &mut [f32]) -> Result<(), Refusal> {
+    answer(unsafe { ffi::desklink_values_of_bytes(bytes.as_ptr(), bytes.len(), positive_is_one.into(), values.as_mut_ptr(), values.len()) }).map(drop)
+}
+
+/// Values that are eighths back to as many soft bytes.
+pub fn bytes_of_values(values: &[f32], positive_is_one: bool, bytes: &mut [i8]) -> Result<(), Refusal> {
+    answer(unsafe { ffi::desklink_bytes_of_values(values.as_ptr(), values.len(), positive_is_one.into(), bytes.as_mut_ptr(), bytes.len()) }).map(drop)
 }

@@ -316,8 +316,31 @@ fn mender() {
 }
 
 #[test]
+fn eighths() {
+    let all: Vec<i8> = (-127..=127).collect();
+    for positive_is_one in [false, true] {
+        let (mut values, mut back) = (vec![9.0; 255], vec![0; 255]);
+        slices::values_of_bytes(&all, positive_is_one, &mut values).unwrap();
+        for (&byte, value) in all.iter().zip(&values) {
+            let eighth = f32::from(byte) / 8.0;
+            let expected = if byte == 0 { 0.0 } else if positive_is_one { -eighth } else { eighth };
+            assert_eq!(value.to_bits(), expected.to_bits());
+        }
+        slices::bytes_of_values(&values, positive_is_one, &mut back).unwrap();
+        assert_eq!(back, all);
+        expect(slices::values_of_bytes(&all, positive_is_one, &mut values[1..]), Some(Refusal::InputLength));
+        expect(slices::values_of_bytes(&[-128], positive_is_one, &mut values[..1]), Some(Refusal::ByteOutOfRange));
+        expect(slices::bytes_of_values(&values, positive_is_one, &mut back[1..]), Some(Refusal::InputLength));
+        for value in [-0.0, 0.0625, 16.0, -16.0, f32::NAN, f32::INFINITY, f32::MIN_POSITIVE, 1e-45] {
+            expect(slices::bytes_of_values(&[value], positive_is_one, &mut back[..1]), Some(Refusal::NotEighths));
+        }
+        assert_eq!(back, all);
+    }
+}
+
+#[test]
 fn every_refusal_has_its_number_and_a_sentence() {
-    for number in (1..=13).chain([16]) {
+    for number in (1..=13).chain(16..=18) {
         let refusal = Refusal::from_number(number).unwrap();
         assert_eq!(refusal.number(), number);
         assert!(refusal.to_string().len() > 15);

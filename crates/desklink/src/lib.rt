@@ -3,6 +3,7 @@ use batch::Batched;
 use crc::Added;
 use crc::Checksum;
 use decoders::Decoding;
+use eighths::Converted;
 use ldpc::Count;
 use ldpc::Encoded;
 use ldpc_codes::Encoding;
@@ -10,6 +11,8 @@ use ldpc_codes::Weight;
 use mender::Mended;
 use refusal::Refusal;
 ghost use mathlib.Core.Path.{_≡_};
+ghost use mathlib.Core.Bool.{not};
+ghost use lib.Dec.{eqb};
 ghost use lib.IntN.{pos, negℤ};
 ghost use lib.ListN.{length};
 ghost use Rattle.refusal.specs.Outcome.{judged, kept};
@@ -29,6 +32,7 @@ ghost use Rattle.decoders.specs.Decodes.{ruleOf, staircaseDecode, ft8Decode};
 ghost use Rattle.decoders.specs.Calls.{decodingOf, softWithRefusals, softRefusals, ft8Refusals};
 ghost use Rattle.softmath.specs.declared.DecodeRule.the-variants as rules;
 ghost use Rattle.batch.specs.Calls.{batchedOf, batchRefusals, batchCounts, batchBits};
+ghost use Rattle.eighths.specs.Calls.{convertedOf, bytesRefusals, valuesRefusals, valuesOf, bytesOf};
 ghost use Rattle.mender.specs.Mend.{mendedWord, mendedPlaces, listed};
 ghost use Rattle.mender.specs.Calls.{mendedOf, checksBy, mendRefusals};
 ghost use Rattle.desklink.specs.Coded.{coded, codedUnit};
@@ -110,6 +114,15 @@ fn decoding_code(answer: Decoding) -> i32
     match answer {
         Decoding::Count(v) => value_code(v),
         Decoding::Refused(r) => refusal_code(r),
+    }
+}
+
+fn converted_code(answer: Converted) -> i32
+    ensures { λ n. ⌜ n ≡ codedUnit (convertedOf answer) ⌝ }
+{
+    match answer {
+        Converted::Done => 0,
+        Converted::Refused(r) => refusal_code(r),
     }
 }
 
@@ -272,4 +285,22 @@ pub extern "C" fn desklink_mend(code: u32, word: &mut [u8], places: &mut [u16]) 
     ensures { λ _. ⌜ now (places .exit) ≡ kept (mendRefusals code (now (word .entry)) (now (places .entry))) (now (places .entry)) (listed (mendedPlaces (checksBy code) (now (word .entry))) (now (places .entry))) ⌝ }
 {
     mended_code(mender::mend(code, word, places))
+}
+
+// ---- soft values in eighths: any number but 0 says that positive counts as 1
+
+#[no_mangle]
+pub extern "C" fn desklink_values_of_bytes(bytes: &[i8], positive_is_one: u32, values: &mut [f32]) -> i32
+    ensures { λ n. ⌜ n ≡ codedUnit (judged (bytesRefusals (now (bytes .entry)) (now (values .entry))) tt) ⌝ }
+    ensures { λ _. ⌜ now (values .exit) ≡ kept (bytesRefusals (now (bytes .entry)) (now (values .entry))) (now (values .entry)) (valuesOf (not (eqb positive_is_one 0)) (now (bytes .entry))) ⌝ }
+{
+    converted_code(eighths::values_of_bytes(bytes, positive_is_one != 0, values))
+}
+
+#[no_mangle]
+pub extern "C" fn desklink_bytes_of_values(values: &[f32], positive_is_one: u32, bytes: &mut [i8]) -> i32
+    ensures { λ n. ⌜ n ≡ codedUnit (judged (valuesRefusals (now (values .entry)) (now (bytes .entry))) tt) ⌝ }
+    ensures { λ _. ⌜ now (bytes .exit) ≡ kept (valuesRefusals (now (values .entry)) (now (bytes .entry))) (now (bytes .entry)) (bytesOf (not (eqb positive_is_one 0)) (now (values .entry))) ⌝ }
+{
+    converted_code(eighths::bytes_of_values(values, positive_is_one != 0, bytes))
 }
