@@ -290,17 +290,25 @@ pub extern "C" fn desklink_mend(code: u32, word: &mut [u8], places: &mut [u16]) 
 // ---- soft values in eighths: any number but 0 says that positive counts as 1
 
 #[no_mangle]
-pub extern "C" fn desklink_values_of_bytes(bytes: &[i8], positive_is_one: u32, values: &mut [f32]) -> i32
+pub extern "C" fn desklink_values_of_bytes(
+    bytes: &[i8],
+    positive_is_one: u32,
+    values: &mut [f32],
+) -> i32
     ensures { λ n. ⌜ n ≡ codedUnit (judged (bytesRefusals (now (bytes .entry)) (now (values .entry))) tt) ⌝ }
-    ensures { λ _. ⌜ now (values .exit) ≡ kept (bytesRefusals (now (bytes .entry)) (now (values .entry))) (now (values .entry)) (valuesOf (not (eqb positive_is_one 0)) (now (bytes .entry))) ⌝ }
+    ensures { λ _. ⌜ now (values .exit) ≡ kept (bytesRefusals (now (bytes .entry)) (now (values .entry))) (now (values .entry)) (valuesOf (not (eqb «positive_is_one» 0)) (now (bytes .entry))) ⌝ }
 {
     converted_code(eighths::values_of_bytes(bytes, positive_is_one != 0, values))
 }
 
 #[no_mangle]
-pub extern "C" fn desklink_bytes_of_values(values: &[f32], positive_is_one: u32, bytes: &mut [i8]) -> i32
+pub extern "C" fn desklink_bytes_of_values(
+    values: &[f32],
+    positive_is_one: u32,
+    bytes: &mut [i8],
+) -> i32
     ensures { λ n. ⌜ n ≡ codedUnit (judged (valuesRefusals (now (values .entry)) (now (bytes .entry))) tt) ⌝ }
-    ensures { λ _. ⌜ now (bytes .exit) ≡ kept (valuesRefusals (now (values .entry)) (now (bytes .entry))) (now (bytes .entry)) (bytesOf (not (eqb positive_is_one 0)) (now (values .entry))) ⌝ }
+    ensures { λ _. ⌜ now (bytes .exit) ≡ kept (valuesRefusals (now (values .entry)) (now (bytes .entry))) (now (bytes .entry)) (bytesOf (not (eqb «positive_is_one» 0)) (now (values .entry))) ⌝ }
 {
     converted_code(eighths::bytes_of_values(values, positive_is_one != 0, bytes))
 }
