@@ -7,15 +7,16 @@ use Prim.Native.Nat.{ℕ, suc, _+_, _-_, _*_, _≤_, _<_}
 use native.Mathlib.Nat.{lt-of-not-le}
 use native.Mathlib.Omega.{arith}
 use lib.ListN.{length, take, drop, getD, set}
-use lib.Dec.{eqb, ltb}
+use lib.Dec.{eqb}
 use lib.Ieee.{Float, nan, inf, fin, up, down, neg, lt, eq}
 use lib.Ieee.Fits.{down-pos}
 use lib.Ieee.Positive.{through}
 use borrow.Author.Tests.{ltb-true, ltb-false, lt-ltb, le-ltb, eqb-true, eq-eqb, ne-eqb}
 use Rattle.softmath.specs.Single.{_⊗_, zero32, one32, foldFrom}
 use Rattle.softmath.specs.Functions.{magnitudeOf}
-use Rattle.softmath.specs.CheckNode.{overOthers, noneSeen, turned, seen, minimaFrom, minimaOf, minAnswer, minAnswers, minSum}
+use Rattle.softmath.specs.CheckNode.{overOthers, noneSeen, turned, seen, minimaFrom, minimaOf, minAnswer, minAnswers, minSum, checkStep}
 use Rattle.softmath.specs.Others.{lesserOf, turnedBy, leastOf, signOf, othersAnswer, othersSum}
+use Rattle.softmath.specs.declared.DecodeRule.the-variants.{MinSum, ScaledMinSum}
 use Rattle.softmath.specs.declared.Minima.{Minima}
 use Rattle.softmath.proofs.InPlace.{rest-whole, place-more, place-done}
 use Rattle.softmath.proofs.LeaveOneOut.{fold-append}
@@ -27,7 +28,7 @@ cross-below : (x y z p q r : ℕ) → 0 < q → z * p < x * r → x * q ≤ y * 
 cross-below x y z p q r Q h k = lt-of-not-le (λ w. omega (arith, h, through x y z p q r Q k w))
 
 -- below one magnitude and hence below another that is not less
-pub below-other : (u v w : Float) → eq (magnitudeOf w) (magnitudeOf w) ≡ true → lt (magnitudeOf u) (magnitudeOf v) ≡ true → lt (magnitudeOf w) (magnitudeOf v) ≡ false
+below-other : (u v w : Float) → eq (magnitudeOf w) (magnitudeOf w) ≡ true → lt (magnitudeOf u) (magnitudeOf v) ≡ true → lt (magnitudeOf w) (magnitudeOf v) ≡ false
     → lt (magnitudeOf u) (magnitudeOf w) ≡ true
 unfolding lt eq magnitudeOf
 below-other nan v w g h k = cc
@@ -261,3 +262,8 @@ module _ (scale : Float) where
       place-done (λ (p : Float × Float) (xs : List Float). answersFrom (p .0) (p .1) xs)
       (λ p x xs. (scale ⊗ foldFrom turnedBy (p .1) xs) ⊗ foldFrom lesserOf (p .0) xs)
       (λ p x. (lesserOf (p .0) x, turned x (p .1))) (λ p x xs. refl) nan (λ p. refl) l r i (least, sign) h k
+
+-- both rules, at every check
+pub both-rules : (scale : Float) (vs : List Float) → (checkStep MinSum vs ≡ othersSum one32 vs) × (checkStep (ScaledMinSum scale) vs ≡ othersSum scale vs)
+unfolding checkStep
+both-rules scale vs = (same-answers one32 vs, same-answers scale vs)
