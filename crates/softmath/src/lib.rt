@@ -300,7 +300,7 @@ fn sign_from(start: f32, part: &[f32]) -> f32
 }
 
 // Min-sum in place, from each entry's others: those before are carried along, those after are gone through anew.
-// The contract is the other engine's, so that nothing above depends on which one answers.
+// The contract is the other engine's.
 fn min_sum_by_others(scale: f32, part: &mut [f32])
     ensures { λ _. ⌜ now (part .exit) ≡ minSum scale (now (part .entry)) ⌝ }
 {
@@ -328,7 +328,7 @@ fn min_sum_selected(scale: f32, part: &mut [f32])
     }
 }
 
-// What a rule does to the messages of one check together.
+// What a rule does to the messages of one check together. Nothing above sees which engine answered min-sum: both have the contract that is used here.
 pub fn at_check(rule: DecodeRule, part: &mut [f32])
     ensures { λ _. ⌜ now (part .exit) ≡ middle rule (now (part .entry)) ⌝ }
 {
