@@ -66,7 +66,7 @@ lt-not-eq (fin false m e) (fin true n d) h = cc
 lt-not-eq (fin true m e) (fin false n d) h = unlike-level (m * up e * down d) (n * up d * down e) h
 lt-not-eq (fin true m e) (fin true n d) h = cc (ne-eqb (m * up e * down d) (n * up d * down e) (λ q. omega (arith, q, ltb-true (n * up d * down e) (m * up e * down d) h)))
 
-lt-self : (x y : Float) → lt x y ≡ true → eq x x ≡ true
+pub lt-self : (x y : Float) → lt x y ≡ true → eq x x ≡ true
 unfolding lt eq
 lt-self nan y h = cc
 lt-self (inf true) y h = refl

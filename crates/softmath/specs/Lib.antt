@@ -1,4 +1,5 @@
 pub mod Single
 pub mod Functions
 pub mod CheckNode
+pub mod Others
 pub mod VariableNode

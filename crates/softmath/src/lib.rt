@@ -8,7 +8,11 @@ ghost use lib.ListN.{length};
 ghost use Rattle.softmath.specs.Single.{_⊘_, _⊗_, foldFrom, product, sumFrom};
 ghost use Rattle.softmath.specs.Functions.{tanh, atanh, clampUnit, magnitudeOf, decide};
 ghost use Rattle.softmath.specs.CheckNode.{atEach, turned, seen, minimaOf, minAnswer, minSum, clampedAnswer, negatedAnswer, before, middle, after};
+ghost use Rattle.softmath.specs.Others.{lesserOf, turnedBy};
 ghost use Rattle.softmath.specs.VariableNode.{decisionSum, answersAt, EdgesWithin, lessOwn, othersSummed, bitTurned};
+
+// Which engine answers a min-sum check: the two least magnitudes of all its messages, or each entry's others one by one.
+const BY_OTHERS: bool = false;
 
 // How a check answers: the three rules of the staircase codes, and (174,91)'s own.
 pub enum DecodeRule {
@@ -269,7 +273,62 @@ fn min_sum(scale: f32, part: &mut [f32])
     }
 }
 
-// What a rule does to the messages of one check together.
+// The least magnitude of the part's, and of `start`.
+fn least_from(start: f32, part: &[f32]) -> f32
+    ensures { λ r. ⌜ r ≡ foldFrom lesserOf start (now (part .entry)) ⌝ }
+{
+    let mut least = start;
+    let mut i = 0;
+    while i < part.len() {
+        least = lesser(magnitude(part[i]), least);
+        i += 1;
+    }
+    least
+}
+
+// The sign `start`, turned by each negative one of the part.
+fn sign_from(start: f32, part: &[f32]) -> f32
+    ensures { λ r. ⌜ r ≡ foldFrom turnedBy start (now (part .entry)) ⌝ }
+{
+    let mut sign = start;
+    let mut i = 0;
+    while i < part.len() {
+        sign = turn_sign(part[i], sign);
+        i += 1;
+    }
+    sign
+}
+
+// Min-sum in place, from each entry's others: those before are carried along, those after are gone through anew.
+// The contract is the other engine's.
+fn min_sum_by_others(scale: f32, part: &mut [f32])
+    ensures { λ _. ⌜ now (part .exit) ≡ minSum scale (now (part .entry)) ⌝ }
+{
+    let mut least = 1.0 / 0.0;
+    let mut sign = 1.0;
+    let mut i = 0;
+    while i < part.len() {
+        let own = part[i];
+        let after = sign_from(sign, &part[i + 1..]);
+        part[i] = scale * after * least_from(least, &part[i + 1..]);
+        least = lesser(magnitude(own), least);
+        sign = turn_sign(own, sign);
+        i += 1;
+    }
+}
+
+// The engine that the constant selects.
+fn min_sum_selected(scale: f32, part: &mut [f32])
+    ensures { λ _. ⌜ now (part .exit) ≡ minSum scale (now (part .entry)) ⌝ }
+{
+    if BY_OTHERS {
+        min_sum_by_others(scale, part);
+    } else {
+        min_sum(scale, part);
+    }
+}
+
+// What a rule does to the messages of one check together. Nothing above sees which engine answered min-sum: both have the contract that is used here.
 pub fn at_check(rule: DecodeRule, part: &mut [f32])
     ensures { λ _. ⌜ now (part .exit) ≡ middle rule (now (part .entry)) ⌝ }
 {
@@ -281,10 +340,10 @@ pub fn at_check(rule: DecodeRule, part: &mut [f32])
             products_by_degree(part);
         }
         DecodeRule::MinSum => {
-            min_sum(1.0, part);
+            min_sum_selected(1.0, part);
         }
         DecodeRule::ScaledMinSum(scale) => {
-            min_sum(scale, part);
+            min_sum_selected(scale, part);
         }
     }
 }

@@ -20,14 +20,14 @@ products-by-degree-requires-2 c κs = search needs
 enum-told-3 : tie.Need-enum-told-3
 enum-told-3 c = search needs
 
-min-sum-requires : tie.Need-min-sum-requires
-min-sum-requires c κs = search needs
+min-sum-selected-requires : tie.Need-min-sum-selected-requires
+min-sum-selected-requires c κs = search needs
 
 enum-known-rule : tie.Need-enum-known-rule
 enum-known-rule c = search needs
 
-min-sum-requires-2 : tie.Need-min-sum-requires-2
-min-sum-requires-2 c κs = search needs
+min-sum-selected-requires-2 : tie.Need-min-sum-selected-requires-2
+min-sum-selected-requires-2 c κs = search needs
 
 same-length : tie.Need-same-length
 same-length c = search needs
@@ -48,14 +48,14 @@ same-length-3 c = search needs
 
 returns-3 : tie.Need-returns-3
 unfolding middle
-returns-3 c = rw (c .before .before .before .before .enum-told3 .given .1) (c .before .before .min-sum .ensures)
+returns-3 c = rw (c .before .before .before .before .enum-told3 .given .1) (c .before .before .min-sum-selected .ensures)
 
 same-length-4 : tie.Need-same-length-4
 same-length-4 c = search needs
 
 returns-4 : tie.Need-returns-4
 unfolding middle
-returns-4 c = rw (c .before .before .before .before .before .rule .given .1) (c .before .before .min-sum2 .ensures)
+returns-4 c = rw (c .before .before .before .before .before .rule .given .1) (c .before .before .min-sum-selected2 .ensures)
 
 pub at-check-spec : {M : Type 1} → statement M
 at-check-spec =
@@ -66,9 +66,9 @@ at-check-spec =
     enum-told-2
     products-by-degree-requires-2
     enum-told-3
-    min-sum-requires
+    min-sum-selected-requires
     enum-known-rule
-    min-sum-requires-2
+    min-sum-selected-requires-2
     same-length
     returns
     same-length-2
