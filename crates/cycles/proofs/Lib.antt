@@ -1,0 +1,3 @@
+pub mod Index
+pub mod Cycles
+pub mod Relaxed
