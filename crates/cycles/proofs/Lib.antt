@@ -5,3 +5,4 @@ pub mod Laid
 pub mod N512R12
 pub mod N576R23
 pub mod N512R34
+pub mod Codes
