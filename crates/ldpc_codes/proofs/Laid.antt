@@ -3,16 +3,18 @@ use mathlib.Core.Path.{_≡_, refl, sym, ap, _∙_}
 use mathlib.Core.Bool.{Bool, true, false, cond, not}
 use mathlib.Core.List.{List, [], _∷_, _++_}
 use Prim.Native.Nat.{ℕ, zero, suc, _+_, _-_, _%_, _≤_, _<_}
+use native.Mathlib.Nat.{add-zero}
 use native.Mathlib.Numerals.{add-one}
 use native.Mathlib.Omega.{arith}
 use borrow.Author.Tests.{eqb-true}
+use lib.Bits.{bitAnd}
 use lib.Dec.{eqb}
 use lib.ListN.{length, getD, set, take, drop, length-drop}
-use lib.Seq.{set-at, set-set, drop-cons, take-suc, append-snoc, length-take-le}
+use lib.Seq.{set-at, set-set, drop-cons, take-suc, append-snoc, getD-take, getD-drop, length-take-le}
 use Rattle.refusal.specs.Outcome.{Outcome, judged, kept}
 use Rattle.construction.specs.Codes.{Code}
-use Rattle.tanner.specs.Checks.{count, countMasked, lowBits}
-use Rattle.tanner.specs.Flat.{joined, offsets, rowsFrom, rowsOf, Below, FlatChecks}
+use Rattle.tanner.specs.Checks.{Checks, count, countMasked, lowBits, xorFrom}
+use Rattle.tanner.specs.Flat.{joined, offsets, cut, rowsFrom, rowsOf, Below, Within, FlatChecks}
 use Rattle.tanner.proofs.Count.{low-count, count-front}
 use Rattle.tanner.proofs.Flat.{rows-laid, flat-checks, all-below}
 use Rattle.tanner.proofs.Steps.{rows-more, rows-done}
@@ -29,16 +31,67 @@ copied-more s u v i h fits e =
     (sym (append-snoc (take i s) (getD s i 0) (drop (suc i) u)))
 
 -- ---- one check at a time
-pub filled-more : (s f : List ℕ) (k c : ℕ) (u v z : List ℕ) → c + 1 < length s → v ≡ set u (k + c) (countMasked 1 (take (getD s (c + 1) 0 - getD s c 0) (drop (getD s c 0) f) ∷ []) (set u (k + c) 0))
+two-part : (s : List ℕ) (c i : ℕ) → i < 2 → getD (take (c + 2 - c) (drop c s)) i 0 ≡ getD s (c + i) 0
+two-part s c i h =
+    let e : c + 2 - c ≡ 2 = omega arith in
+    rw (e, getD-take 2 (drop c s) i 0 h, getD-drop c s i 0)
+
+two-length : (s : List ℕ) (c : ℕ) → c + 1 < length s → length (take (c + 2 - c) (drop c s)) ≡ 2
+two-length s c h =
+    let e : c + 2 - c ≡ 2 = omega arith in
+    rw e (length-take-le 2 (drop c s) (simp length-drop (omega arith)))
+
+pub two-short : (s : List ℕ) (c : ℕ) → c + 1 < length s → length (take (c + 2 - c) (drop c s)) ≤ 2
+two-short s c h = omega (arith, two-length s c h)
+
+pub two-flat : (s f : List ℕ) (n c : ℕ) → c + 1 < length s → FlatChecks s f n → FlatChecks (take (c + 2 - c) (drop c s)) f n
+unfolding Within
+two-flat s f n c h flat = record {
+  some = omega (arith, two-length s c h);
+  few = omega (arith, two-length s c h);
+  within = λ k l.
+      let z : k ≡ 0 = omega (arith, two-length s c h) in
+      rw (z, two-part s c 0 (omega arith), two-part s c 1 (omega arith), add-zero c) (flat .within c h);
+  low = flat .low;
+}
+
+two-row : (s f : List ℕ) (c : ℕ) → c + 1 < length s
+    → rowsOf (take (c + 2 - c) (drop c s)) f ≡ take (getD s (c + 1) 0 - getD s c 0) (drop (getD s c 0) f) ∷ []
+two-row s f c h =
+    let p = take (c + 2 - c) (drop c s) in
+    rows-more p f 0 (omega (arith, two-length s c h))
+    ∙ rw (two-part s c 0 (omega arith), two-part s c 1 (omega arith), add-zero c, rows-done p f 1 (omega (arith, two-length s c h)))
+
+pub filled-more : (s f : List ℕ) (k c : ℕ) (u v z : List ℕ) → c + 1 < length s → v ≡ set u (k + c) (countMasked 1 (rowsOf (take (c + 2 - c) (drop c s)) f) (set u (k + c) 0))
     → filled (rowsFrom s c f) (k + c) u ≡ z → filled (rowsFrom s (c + 1) f) (k + (c + 1)) v ≡ z
 unfolding filled
 filled-more s f k c u v z h e inv =
     let n : k + (c + 1) ≡ suc (k + c) = omega arith in
-    rw (n, e) (rw (rows-more s f c h) at inv)
+    rw (n, e, two-row s f c h) (rw (rows-more s f c h) at inv)
 
 pub filled-done : (s f : List ℕ) (k c : ℕ) (u z : List ℕ) → length s ≤ c + 1 → filled (rowsFrom s c f) (k + c) u ≡ z → u ≡ z
 unfolding filled
 filled-done s f k c u z h inv = rw (rows-done s f c h) at inv
+
+cut-length : (a : ℕ) (s f : List ℕ) → length (cut a s f) ≡ length s
+unfolding cut
+cut-length a [] f = refl
+cut-length a (b ∷ s) f = ap suc (cut-length b s f)
+
+nonzero-bit : (b : Bool) → cond b 0 1 ≤ 1
+nonzero-bit true = omega arith
+nonzero-bit false = omega arith
+
+masked-bound : (mask : ℕ) (cs : Checks) (w : List ℕ) → countMasked mask cs w ≤ length cs
+unfolding countMasked
+masked-bound mask [] w = omega arith
+masked-bound mask (c ∷ cs) w = omega (arith, nonzero-bit (eqb (bitAnd (xorFrom 0 c w) mask) 0), masked-bound mask cs w)
+
+-- the count of one check alone is a bit, whatever the mask
+pub one-counted : (mask : ℕ) (s f w : List ℕ) {x : ℕ} → x ≡ countMasked mask (rowsOf s f) w → length s ≤ 2 → x ≤ 1
+unfolding rowsFrom
+one-counted mask s f w e h =
+    omega (arith, e, masked-bound mask (rowsOf s f) w, cut-length (getD s 0 0) (drop 1 s) f, length-drop 1 s)
 
 pub stored-once : (w : List ℕ) (at x : ℕ) {y : ℕ} → x ≡ y → set (set w at 0) at x ≡ set w at y
 stored-once w at x e = set-set w at 0 x ∙ rw e

@@ -15,7 +15,7 @@ ghost use Prim.Native.Nat.{ℕ, _+_, _-_, _≤_, _<_};
 ghost use lib.ListN.{length, take, drop, set};
 ghost use Rattle.refusal.specs.Outcome.{judged, kept};
 ghost use Rattle.tanner.specs.Checks.{count, countMasked, lowBits};
-ghost use Rattle.tanner.specs.Flat.{Below, FlatChecks, rowsOf};
+ghost use Rattle.tanner.specs.Flat.{FlatChecks, rowsOf};
 ghost use Rattle.ldpc_codes.specs.Calls.{encodingOf, weightOf, lengthRefusals, encodeRefusals, encodedBy, shortRefusals, weightRefusals, weightBy, filled};
 
 // The answer of `encode`.
@@ -42,15 +42,16 @@ fn copy_message(message: &[u8], codeword: &mut [u8])
     }
 }
 
-// The parity bit of one check, at its place: the low bit of the check's bytes XORed, with the bit at 0.
-fn parity_bit(positions: &[u16], codeword: &mut [u8], at: usize)
-    requires { ⌜ Below (length (now codeword)) (now positions) ⌝ }
+// The parity bit of one check, at its place: the count of the check alone, with the bit at 0.
+fn parity_bit(starts: &[u16], flat: &[u16], codeword: &mut [u8], at: usize)
+    requires { ⌜ FlatChecks (now starts) (now flat) (length (now codeword)) ⌝ }
+    requires { ⌜ length (now starts) ≤ 2 ⌝ }
     requires { ⌜ at < length (now codeword) ⌝ }
-    ensures { λ _. ⌜ now (codeword .exit) ≡ set (now (codeword .entry)) at (countMasked 1 (now (positions .entry) ∷ []) (set (now (codeword .entry)) at 0)) ⌝ }
+    ensures { λ _. ⌜ now (codeword .exit) ≡ set (now (codeword .entry)) at (countMasked 1 (rowsOf (now (starts .entry)) (now (flat .entry))) (set (now (codeword .entry)) at 0)) ⌝ }
 {
     codeword[at] = 0;
-    let p = tanner::xor_check(positions, codeword) % 2;
-    codeword[at] = p;
+    let p = tanner::count_masked(starts, flat, codeword, 1);
+    codeword[at] = p as u8;
 }
 
 // The parity bits of all checks, one after another.
@@ -61,10 +62,9 @@ fn parity_bits(starts: &[u16], flat: &[u16], k: usize, codeword: &mut [u8])
 {
     let mut c = 0;
     while c + 1 < starts.len() {
-        let a = starts[c] as usize;
-        let b = starts[c + 1] as usize;
+        let end = c + 2;
         let at = k + c;
-        parity_bit(&flat[a..b], codeword, at);
+        parity_bit(&starts[c..end], flat, codeword, at);
         c += 1;
     }
 }

@@ -1,8 +1,7 @@
 -- The laws of counting, for any check list: what each mask counts, and which part of a word matters. By induction over the checks. Assumes nothing.
-use mathlib.Core.Path.{_≡_, refl, ap, _∙_}
+use mathlib.Core.Path.{_≡_, refl, _∙_}
 use mathlib.Core.List.{List, [], _∷_}
 use Prim.Native.Nat.{ℕ, zero, suc, _+_, _%_, _^_, _<_, _≤_}
-use native.Mathlib.Nat.{mod-lt, add-zero}
 use native.Mathlib.Omega.{arith}
 use lib.Bits.{bitAnd, bitXor, and-mask, xor-add-and, xor-lt}
 use lib.ListN.{length, getD, take, List·getD-map}
@@ -49,13 +48,6 @@ nonzero-bit : (x : ℕ) → x < 2 → nonzero x ≡ x
 nonzero-bit zero h = refl
 nonzero-bit (suc zero) h = refl
 nonzero-bit (suc (suc x)) h = absurd (omega arith)
-
--- the count of one check alone, by the low bits, is the low bit of its bytes XORed
-pub one-counted : (c bytes : List ℕ) → countMasked 1 (c ∷ []) bytes ≡ xorFrom 0 c bytes % 2
-unfolding countMasked
-one-counted c bytes =
-    let x = xorFrom 0 c bytes in
-    add-zero (nonzero (bitAnd x 1)) ∙ ap nonzero (and-mask x 1) ∙ nonzero-bit (x % 2) (mod-lt x (omega arith))
 
 pub low-count : (cs : Checks) (bytes : List ℕ) → countMasked 1 cs bytes ≡ count cs (lowBits bytes)
 unfolding countMasked count

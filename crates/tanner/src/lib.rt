@@ -20,7 +20,7 @@ fn xor_at(positions: &[u16], bytes: &[u8]) -> u8
 }
 
 // The same with the degrees of the codes as numbers that the compiler sees, so that it unrolls the loop for each.
-pub fn xor_check(positions: &[u16], bytes: &[u8]) -> u8
+fn xor_check(positions: &[u16], bytes: &[u8]) -> u8
     requires { ⌜ Below (length (now bytes)) (now positions) ⌝ }
     ensures { λ r. ⌜ r ≡ xorFrom 0 (now (positions .entry)) (now (bytes .entry)) ⌝ }
 {

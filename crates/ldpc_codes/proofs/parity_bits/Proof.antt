@@ -1,13 +1,12 @@
 -- `ldpc_codes::parity_bits` meets its contract. The invariant: filling in the rest gives the answer. Assumes nothing.
 use mathlib.Core.Path.{_≡_, refl, _∙_}
-use Prim.Native.Nat.{_+_, _-_, _≤_, _<_}
+use Prim.Native.Nat.{_+_, _-_, _<_}
 use native.Mathlib.Nat.{add-zero}
 use native.Mathlib.Omega.{arith}
-use lib.ListN.{length, getD}
-use Rattle.tanner.specs.Flat.{rowsFrom, Within}
-use Rattle.tanner.proofs.Steps.{part-below}
+use lib.ListN.{length}
+use Rattle.tanner.specs.Flat.{rowsFrom}
 use Rattle.ldpc_codes.specs.Calls.{filled}
-use Rattle.ldpc_codes.proofs.Laid.{filled-more, filled-done}
+use Rattle.ldpc_codes.proofs.Laid.{two-flat, two-short, filled-more, filled-done}
 use borrow.Author.Needs.{needs}
 use Rattle.ldpc_codes.proofs.parity_bits.Statement.{statement}
 use Rattle.ldpc_codes.proofs.parity_bits.Tie as tie
@@ -21,62 +20,32 @@ Inv-loop starts flat k codeword₀ c₀ codeword c = (c < length starts) × ((le
 abbrev μ-loop : tie.MeasureT-loop
 μ-loop starts flat k codeword₀ c₀ codeword c = length starts - c
 
--- in a turn: the bounds of the check's positions
-bounds : (c : tie.In-loop Inv-loop μ-loop) → let s = c .before .before .before .before .before .args .starts .now in
-    (getD s (c .before .loop .c) 0 ≤ getD s (c .before .loop .c + 1) 0)
-    × (getD s (c .before .loop .c + 1) 0 ≤ length (c .before .before .before .before .before .args .flat .now))
-unfolding Within
-bounds c = c .before .before .before .before .before .pre .0 .within (c .before .loop .c) (c .loop-test .taken)
-
 loop-holds : tie.Need-loop-holds Inv-loop μ-loop
 loop-holds c = (c .before .before .before .pre .0 .some, (refl, rw add-zero))
 
 add-loop : tie.Need-add-loop Inv-loop μ-loop
 add-loop c = search needs
 
-mul-a : tie.Need-mul-a Inv-loop μ-loop
-mul-a c = search needs
-
-shared-slice-read-a : tie.Need-shared-slice-read-a Inv-loop μ-loop
-shared-slice-read-a c = search needs
-
-cast-a : tie.Need-cast-a Inv-loop μ-loop
-cast-a c = omega (arith, c .shared-slice-known3 .given (c .before .before .loop .c))
-
-add-b : tie.Need-add-b Inv-loop μ-loop
-add-b c = search needs
-
-mul-b : tie.Need-mul-b Inv-loop μ-loop
-mul-b c = search needs
-
-shared-slice-read-b : tie.Need-shared-slice-read-b Inv-loop μ-loop
-shared-slice-read-b c = search needs
-
-cast-b : tie.Need-cast-b Inv-loop μ-loop
-cast-b c = omega (arith, c .shared-slice-known4 .given (c .before .before .before .loop .c + 1))
+add-end : tie.Need-add-end Inv-loop μ-loop
+add-end c = search needs
 
 add-at : tie.Need-add-at Inv-loop μ-loop
 add-at c = search needs
 
 mul-parity-bit : tie.Need-mul-parity-bit Inv-loop μ-loop
-mul-parity-bit c = omega (arith, bounds (c .before .before))
+mul-parity-bit c = search needs
 
 sub-parity-bit : tie.Need-sub-parity-bit Inv-loop μ-loop
-sub-parity-bit c = omega (arith, bounds (c .before .before))
+sub-parity-bit c = search needs
 
 part-parity-bit-start : tie.Need-part-parity-bit-start Inv-loop μ-loop
-part-parity-bit-start c = omega (arith, bounds (c .before .before))
+part-parity-bit-start c = search needs
 
 part-parity-bit-end : tie.Need-part-parity-bit-end Inv-loop μ-loop
-part-parity-bit-end c = omega (arith, bounds (c .before .before))
+part-parity-bit-end c = search needs
 
 parity-bit-requires : tie.Need-parity-bit-requires Inv-loop μ-loop
-parity-bit-requires c κs =
-    let loop = c .before .before .before .before .before in
-    let start = loop .before .before .before .before in
-    let s = start .args .starts .now in
-    let so = loop .loop .inv .1 .0 in
-    (rw so (part-below _ _ (getD s (loop .loop .c) 0) (getD s (loop .loop .c + 1) 0) (start .pre .0 .low)), omega (arith, so, start .pre .1, c .before .before .before .before .loop-test .taken))
+parity-bit-requires c κs = let so = c .before .before .before .loop .inv .1 .0 in let start = c .before .before .before .before .before .before .before in (rw so (two-flat _ _ _ _ (c .before .before .loop-test .taken) (start .pre .0)), (two-short _ _ (c .before .before .loop-test .taken), omega (arith, so, start .pre .1, c .before .before .loop-test .taken)))
 
 add-c : tie.Need-add-c Inv-loop μ-loop
 add-c c = search needs
@@ -85,10 +54,7 @@ loop-less : tie.Need-loop-less Inv-loop μ-loop
 loop-less c = search needs
 
 loop-again : tie.Need-loop-again Inv-loop μ-loop
-loop-again c =
-    let turn = c .before .before .before .before .before .before .before .before in
-    let taken = c .before .before .before .before .before .before .before .loop-test .taken in
-    (search needs, (c .before .before .parity-bit .kept .1 .0 ∙ turn .loop .inv .1 .0, filled-more _ _ _ _ _ _ _ taken (c .before .before .parity-bit .ensures) (turn .loop .inv .1 .1)))
+loop-again c = let turn = c .before .before .before .before .before .before in (search needs, (c .before .before .parity-bit .kept .1 .1 .0 ∙ turn .loop .inv .1 .0, filled-more _ _ _ _ _ _ _ (c .before .before .before .before .before .loop-test .taken) (c .before .before .parity-bit .ensures) (turn .loop .inv .1 .1)))
 
 same-length : tie.Need-same-length Inv-loop μ-loop
 same-length c = c .before .loop .inv .1 .0
@@ -104,13 +70,7 @@ parity-bits-spec =
     μ-loop
     loop-holds
     add-loop
-    mul-a
-    shared-slice-read-a
-    cast-a
-    add-b
-    mul-b
-    shared-slice-read-b
-    cast-b
+    add-end
     add-at
     mul-parity-bit
     sub-parity-bit
