@@ -239,41 +239,6 @@ fn batch() {
     }
 }
 
-/// The mender as the request's words have it: the lowest-numbered check with one unknown bit, again and again.
-fn mended(checks: &[Vec<usize>], word: &mut [u8]) -> Vec<u16> {
-    let mut places = Vec::new();
-    while let Some(check) = checks.iter().find(|c| c.iter().filter(|&&p| word[p] == 2).count() == 1) {
-        let at = *check.iter().find(|&&p| word[p] == 2).unwrap();
-        word[at] = check.iter().filter(|&&p| p != at).fold(0, |parity, &p| parity ^ word[p]);
-        places.push(at as u16);
-    }
-    places
-}
-
-/// The positions of each check of a staircase code: those whose bit alone leaves the check unsatisfied.
-fn staircase_checks(code: u32) -> Vec<Vec<usize>> {
-    let (n, k) = (N[code as usize], K[code as usize]);
-    let mut checks = vec![Vec::new(); n - k];
-    for column in 0..k {
-        let mut message = vec![0; k];
-        message[column] = 1;
-        let mut codeword = vec![0; n];
-        slices::encode(code, &message, &mut codeword).unwrap();
-        for row in 0..n - k {
-            if codeword[k + row] != if row == 0 { 0 } else { codeword[k + row - 1] } {
-                checks[row].push(column);
-            }
-        }
-    }
-    for (row, check) in checks.iter_mut().enumerate() {
-        check.push(k + row);
-        if row > 0 {
-            check.push(k + row - 1);
-        }
-    }
-    checks
-}
-
 #[test]
 fn mender() {
     let random = &mut Random(7);
@@ -298,19 +263,6 @@ fn mender() {
                     assert!(word == before && places == places_before);
                 }
             }
-        }
-    }
-    for code in 0..3 {
-        let (n, checks) = (N[code as usize], staircase_checks(code));
-        for holes in [0, 1, 10, 60, 120, 200, n] {
-            let mut word = random.bits(n);
-            for _ in 0..holes {
-                word[random.below(n)] = 2;
-            }
-            let (mut expected, mut places) = (word.clone(), vec![65_535; n]);
-            let set = mended(&checks, &mut expected);
-            assert_eq!(slices::mend(code, &mut word, &mut places), Ok(set.len() as u16));
-            assert!(word == expected && places[..set.len()] == set[..] && places[set.len()..].iter().all(|&p| p == 65_535));
         }
     }
 }
