@@ -1,16 +1,22 @@
 /* desklink.h: the C interface of libdesklink.a (`rt staticlib desklink` writes it to target/staticlib).
  *
- * Answers. Every call answers one int32_t: a value or a count from 0 up, or a refusal as minus its number, -1 to -13 or -16 to -18.
- * A refused call has written nothing. A call that only writes answers 0.
+ * Answers. Every call answers one int32_t: a value or a count from 0 up, or a refusal as minus its number, -1 to -13 or
+ * -16 to -18. A refused call has written nothing. A call that only writes answers 0.
+ *
+ * Counts. A word's count is how many of the code's parity checks it leaves unsatisfied; 0 says that it is a codeword.
+ * Beside a count, `first` gets the number of the lowest check that it includes, from 0, or DESKLINK_NO_CHECK where it is
+ * 0; beside the count of a decode, `rounds` gets how many rounds were run. Neither pointer is null.
  *
  * Slices. A slice is passed as a pointer and then the number of its elements. The pointer is never null (a slice of
  * no elements may have any other pointer that is aligned), is aligned for its type, and the memory is the caller's for
  * the whole call. A slice that is written to overlaps no other slice of the call. That is all that a caller owes: every
  * value of a number, and every length, is tested by the call.
  *
- * Codes. 0 is N512R12 (N 512, K 256), 1 is N576R23 (N 576, K 384), 2 is N512R34 (N 512, K 384); in a batch and for the
- * mender 3 is (174,91) (N 174, K 91), in a batch with rules 0 and 3 only.
- * Rules. 0 is sum-product, 1 min-sum, 2 min-sum scaled by `scale`, 3 the house default, which is rule 0.
+ * Codes. 0 is N512R12 (N 512, K 256), 1 is N576R23 (N 576, K 384), 2 is N512R34 (N 512, K 384); in a batch and for
+ * erasures 3 is (174,91) (N 174, K 91), in a batch with rules 0, 3 and 4 only.
+ * Rules. 0 is sum-product, 1 min-sum, 2 min-sum scaled by `scale`, 3 the house default: min-sum scaled by 0.75 on codes 0
+ * to 2, and rule 4 on code 3. Rule 4, for code 3 alone, is sum-product with the right sign: rule 0 there is the original's,
+ * which pulls the wrong way at 24 of its 83 checks and gains nothing over hard decisions.
  *
  * Work area. Each decoder borrows at least DESKLINK_WORK floats, of any contents. After an accepted call the first
  * DESKLINK_WORK of them are +0.0, and the rest are as they were.
@@ -26,11 +32,12 @@ extern "C" {
 #endif
 
 #define DESKLINK_WORK 3070
+#define DESKLINK_NO_CHECK 65535
 
 enum desklink_refusal {
     DESKLINK_UNKNOWN_CODE = -1,     /* the code's number names none */
-    DESKLINK_UNKNOWN_RULE = -2,     /* the rule's number is above 3 */
-    DESKLINK_RULE_NOT_OF_CODE = -3, /* (174,91) takes rules 0 and 3 only */
+    DESKLINK_UNKNOWN_RULE = -2,     /* the rule's number is above 4 */
+    DESKLINK_RULE_NOT_OF_CODE = -3, /* (174,91) takes rules 0, 3 and 4 only, and no other code takes rule 4 */
     DESKLINK_INPUT_LENGTH = -4,     /* an input is not its fixed length, or has fewer bytes than the bits asked for */
     DESKLINK_WORD_TOO_SHORT = -5,   /* a staircase word to be counted has fewer than N bytes */
     DESKLINK_MESSAGE_SLACK = -6,    /* a (174,91) message has a set bit among the low five of byte 11 */
@@ -41,7 +48,7 @@ enum desklink_refusal {
     DESKLINK_PAIR_ORDER = -11,      /* a pair starts below the end of the one before */
     DESKLINK_PAIR_PAST_END = -12,   /* a pair ends past the values */
     DESKLINK_MALFORMED = -13,       /* a program's input is malformed; no call here answers it */
-    DESKLINK_UNKNOWN_BYTE = -16,    /* a byte of a word to be mended is above 2 */
+    DESKLINK_ERASURE_BYTE = -16,    /* a byte of a word with erasures is above 2 */
     DESKLINK_BYTE_OUT_OF_RANGE = -17, /* a soft byte is -128 */
     DESKLINK_NOT_EIGHTHS = -18      /* a value is no soft byte's */
 };
@@ -59,38 +66,47 @@ int32_t desklink_ft8_extract_crc(const uint8_t *a91, size_t a91_len);
 int32_t desklink_ldpc_encode(const uint8_t *message, size_t message_len, uint8_t *codeword, size_t codeword_len);
 
 /* hard: 174 bytes. How many of the 83 checks have bytes whose XOR is not 0. */
-int32_t desklink_ldpc_count_errors(const uint8_t *hard, size_t hard_len);
+int32_t desklink_ldpc_count_errors(const uint8_t *hard, size_t hard_len, uint16_t *first);
 
 /* llr: 174 values, positive where 0 is likelier; plain: 174 bytes, written. The count of the chosen word. */
 int32_t desklink_ldpc_decode_soft(const float *llr, size_t llr_len, uint16_t limit, uint8_t *plain, size_t plain_len,
-                                  float *work, size_t work_len);
+                                  uint16_t *rounds, uint16_t *first, float *work, size_t work_len);
 
 /* message: K bytes; codeword: N bytes, written. */
 int32_t desklink_encode(uint32_t code, const uint8_t *message, size_t message_len, uint8_t *codeword,
                         size_t codeword_len);
 
 /* hard: N bytes or more, of which the first N are read. How many checks their low bits leave unsatisfied. */
-int32_t desklink_syndrome_weight(uint32_t code, const uint8_t *hard, size_t hard_len);
+int32_t desklink_syndrome_weight(uint32_t code, const uint8_t *hard, size_t hard_len, uint16_t *first);
 
 /* llr: N values; bits: K bytes, written. Sum-product. The count of the chosen word. */
 int32_t desklink_decode_soft(uint32_t code, uint16_t limit, const float *llr, size_t llr_len, uint8_t *bits,
-                             size_t bits_len, float *work, size_t work_len);
+                             size_t bits_len, uint16_t *rounds, uint16_t *first, float *work, size_t work_len);
 
 /* The same by the rule with that number; scale is read by rule 2 alone, and may have any bits. */
 int32_t desklink_decode_soft_with(uint32_t code, uint32_t rule, float scale, uint16_t limit, const float *llr,
-                                  size_t llr_len, uint8_t *bits, size_t bits_len, float *work, size_t work_len);
+                                  size_t llr_len, uint8_t *bits, size_t bits_len, uint16_t *rounds, uint16_t *first,
+                                  float *work, size_t work_len);
 
 /* Decodes many frames of one code. pairs: for each frame its offset in values and its length, which is N, in turn, sorted
  * by offset; pairs_len counts those numbers, two a pair, at most 48 (an odd one at the end is not read). bits: K bytes a
- * pair, written; counts: one place a pair, written. */
+ * pair, written; counts, rounds and firsts: one place a pair each, written. */
 int32_t desklink_decode_batch(uint32_t code, uint32_t rule, uint16_t limit, float scale, const float *values,
                               size_t values_len, const uint32_t *pairs, size_t pairs_len, uint8_t *bits,
-                              size_t bits_len, uint16_t *counts, size_t counts_len, float *work, size_t work_len);
+                              size_t bits_len, uint16_t *counts, size_t counts_len, uint16_t *rounds,
+                              size_t rounds_len, uint16_t *firsts, size_t firsts_len, float *work, size_t work_len);
+
+/* The same of a batch that was stored when rule 3 stood for rule 0: 3 is taken as 0, and every other number as it is. */
+int32_t desklink_decode_stored_batch(uint32_t code, uint32_t rule, uint16_t limit, float scale, const float *values,
+                                     size_t values_len, const uint32_t *pairs, size_t pairs_len, uint8_t *bits,
+                                     size_t bits_len, uint16_t *counts, size_t counts_len, uint16_t *rounds,
+                                     size_t rounds_len, uint16_t *firsts, size_t firsts_len, float *work,
+                                     size_t work_len);
 
 /* word: N bytes, each 0, 1, or 2 for an unknown bit; the unknown bits that the checks of the code (0 to 3) decide are
  * set. places: N numbers, of which the first ones are written: the positions that were set, in the order in which they
  * were. How many were set. */
-int32_t desklink_mend(uint32_t code, uint8_t *word, size_t word_len, uint16_t *places, size_t places_len);
+int32_t desklink_fill_erasures(uint32_t code, uint8_t *word, size_t word_len, uint16_t *places, size_t places_len);
 
 /* Soft bytes, -127 to 127 in eighths, and values, as many of one as of the other; where positive_is_one is not 0, the
  * bytes are of a model that counts positive as 1. Either call undoes the other. */

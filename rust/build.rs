@@ -35,16 +35,24 @@ fn originals(folder: &Path) -> Option<Vec<(&'static str, PathBuf)>> {
         .collect()
 }
 
-fn reference(root: &Path) {
+/// A module of the original file, and of what the tests read of its private parts.
+fn module(here: &Path, name: &str, original: &Path) -> String {
+    let more = here.join(format!("tests/original/{name}.rs"));
+    println!("cargo::rerun-if-changed={}", more.display());
+    let more = if more.is_file() { format!("include!({more:?});") } else { String::new() };
+    format!("#[allow(dead_code)]\npub mod {name} {{\n    include!({original:?});\n    {more}\n}}\n")
+}
+
+fn reference(here: &Path, root: &Path) {
     println!("cargo::rerun-if-env-changed=ORION_SRC");
     println!("cargo::rustc-check-cfg=cfg(orion)");
     let folder = env::var_os("ORION_SRC").map_or(root.join("../shared/docs"), PathBuf::from);
     let mut text = String::new();
     if let Some(files) = originals(&folder) {
         println!("cargo::rustc-cfg=orion");
-        for (module, path) in files {
+        for (name, path) in files {
             println!("cargo::rerun-if-changed={}", path.display());
-            text += &format!("#[allow(dead_code)]\n#[path = {path:?}]\npub mod {module};\n");
+            text += &module(here, name, &path);
         }
     }
     let out = PathBuf::from(env::var_os("OUT_DIR").expect("cargo sets OUT_DIR")).join("orion.rs");
@@ -56,5 +64,5 @@ fn main() {
     let root = here.parent().expect("the package lies in the repository");
     println!("cargo::rerun-if-changed=build.rs");
     link(root);
-    reference(root);
+    reference(&here, root);
 }

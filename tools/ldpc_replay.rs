@@ -1,5 +1,6 @@
 // Writes what crates/ldpc_replay is run on: its stdin, 300 messages of 12 bytes and then words of 174 bytes, and its stdout, what the Rust's
-// ldpc.rs answers: its tables NM, NUM_ROWS and MN entry by entry, a codeword for each message, and a count for each word, in hexadecimal.
+// ldpc.rs answers: its tables NM, NUM_ROWS and MN entry by entry, a codeword for each message, and for each word a count and the
+// first check that it includes, in hexadecimal.
 // Built with ORION_SRC naming a folder that holds ldpc.rs; run with the crate's folder as its argument (tools/README.md).
 #[allow(dead_code)]
 mod ldpc {
@@ -7,6 +8,12 @@ mod ldpc {
 
     pub fn tables() -> [Vec<u8>; 3] {
         [NM.concat(), NUM_ROWS.to_vec(), MN.concat()]
+    }
+
+    // The lowest check whose bytes' XOR is not zero, as the Rust's count forms it.
+    pub fn first(word: &[u8; N]) -> Option<usize> {
+        let odd = |check: &usize| (0..NUM_ROWS[*check] as usize).fold(0, |x, i| x ^ word[NM[*check][i] as usize - 1]) != 0;
+        (0..M).find(odd)
     }
 }
 
@@ -117,7 +124,8 @@ fn main() {
         stdout += &hex(&codeword(message));
     }
     for word in &words {
-        writeln!(stdout, "{:02x}", ldpc::ldpc_count_errors(word)).unwrap();
+        let first = ldpc::first(word).map_or("--".to_string(), |check| format!("{check:02x}"));
+        writeln!(stdout, "{:02x}{first}", ldpc::ldpc_count_errors(word)).unwrap();
     }
     std::fs::write(format!("{folder}/stdin"), [messages.concat(), words.concat()].concat()).unwrap();
     std::fs::write(format!("{folder}/stdout"), stdout).unwrap();

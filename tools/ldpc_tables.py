@@ -73,9 +73,9 @@ def main():
         ("The checks of each of the 174 positions, three a position, counted from 1.", "MN", mn, 3, "%d"),
     ]
     graph = [
-        ("Where each check's positions start in CHECK_BITS, and the end of the last.", "CHECK_START", check_start, "checkStart"),
+        ("Where each check's positions start in CHECK_BITS, and the end of the last.", "CHECK_STARTS", check_start, "checkStart"),
         ("The positions of each check, counted from 0: one for each of the 522 edges.", "CHECK_BITS", check_bits, "checkBits"),
-        ("Where each position's edges start in BIT_EDGES, and the end of the last.", "BIT_START", bit_start, "bitStart"),
+        ("Where each position's edges start in BIT_EDGES, and the end of the last.", "BIT_STARTS", bit_start, "bitStart"),
         ("The edges of each position, ascending: indices in CHECK_BITS.", "BIT_EDGES", bit_edges, "bitEdge"),
     ]
 

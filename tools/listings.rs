@@ -12,10 +12,12 @@ mod crc {
 #[allow(dead_code)]
 mod ldpc {
     include!(concat!(env!("ORION_SRC"), "/ldpc.rs"));
+    include!("../rust/tests/original/ldpc.rs");
 }
 #[allow(dead_code)]
 mod ldpc_codes {
     include!(concat!(env!("ORION_SRC"), "/ldpc_codes.rs"));
+    include!("../rust/tests/original/ldpc_codes.rs");
 }
 
 use ldpc_codes::{DecodeRule, Ldpc, LdpcCode};
@@ -24,25 +26,60 @@ use std::fs;
 
 // ---- the listing of an input
 
-struct Codes([Ldpc; 3]);
+const STAIRCASE: [LdpcCode; 3] = [LdpcCode::N512R12, LdpcCode::N576R23, LdpcCode::N512R34];
+
+struct Codes {
+    encoders: [Ldpc; 3],
+    decoders: [Ldpc; 3],
+    checks: [Vec<Vec<usize>>; 4],
+}
 
 impl Codes {
-    fn n(&self, code: u8) -> usize {
-        if code == 3 { ldpc::N } else { self.0[code as usize].n() }
+    fn new() -> Codes {
+        let encoders = STAIRCASE.map(Ldpc::new);
+        let decoders = STAIRCASE.map(|code| Ldpc::new(code).whole());
+        let [a, b, c] = [0, 1, 2].map(|code: usize| encoders[code].checks());
+        Codes { encoders, decoders, checks: [a, b, c, ldpc::checks()] }
     }
 
+    fn n(&self, code: u8) -> usize {
+        if code == 3 { ldpc::N } else { STAIRCASE[code as usize].n() }
+    }
+
+    fn k(&self, code: u8) -> usize {
+        if code == 3 { ldpc::K } else { STAIRCASE[code as usize].k() }
+    }
+
+    // All N bits of the word that the Rust chooses, and its count; of rule 4, the word that document 02 says. Rule 3 is the
+    // house default: scaled min-sum at 0.75, and rule 4 on code 3.
     fn decode(&self, code: u8, rule: u8, scale: f32, limit: u16, llr: &[f32]) -> (Vec<u8>, usize) {
         if code == 3 {
             let mut plain = [0u8; ldpc::N];
-            let count = ldpc::ldpc_decode_soft(llr.try_into().unwrap(), limit as usize, &mut plain);
-            return (plain[..ldpc::K].to_vec(), count);
+            let decoder = if rule >= 3 { ldpc::decode_rule_4 } else { ldpc::ldpc_decode_soft };
+            let count = decoder(llr.try_into().unwrap(), limit as usize, &mut plain);
+            return (plain.to_vec(), count);
         }
         let rule = match rule {
             1 => DecodeRule::MinSum,
             2 => DecodeRule::ScaledMinSum(scale),
+            3 => DecodeRule::ScaledMinSum(0.75),
             _ => DecodeRule::SumProduct,
         };
-        self.0[code as usize].decode_soft_with(llr, limit as usize, rule)
+        self.decoders[code as usize].decode_soft_with(llr, limit as usize, rule)
+    }
+
+    // The rounds run: the least limit under which the count is 0, or else the limit.
+    fn rounds(&self, code: u8, rule: u8, scale: f32, limit: u16, llr: &[f32], count: usize) -> u16 {
+        if count != 0 {
+            return limit;
+        }
+        (0..=limit).find(|&less| self.decode(code, rule, scale, less, llr).1 == 0).unwrap()
+    }
+
+    // The lowest check that the word does not satisfy.
+    fn first(&self, code: u8, word: &[u8]) -> Option<usize> {
+        let odd = |bits: &Vec<usize>| bits.iter().map(|&bit| word[bit]).sum::<u8>() % 2 == 1;
+        self.checks[code as usize].iter().position(odd)
     }
 }
 
@@ -83,10 +120,10 @@ fn refusal(codes: &Codes, code: u8, rule: u8, pairs: &[(u64, u64)], values: u64)
     if code > 3 {
         return Some(1);
     }
-    if rule > 3 {
+    if rule > 4 {
         return Some(2);
     }
-    if code == 3 && (rule == 1 || rule == 2) {
+    if if code == 3 { rule == 1 || rule == 2 } else { rule == 4 } {
         return Some(3);
     }
     if pairs.len() > 24 {
@@ -147,9 +184,12 @@ fn listing(codes: &Codes, s: &[u8]) -> String {
     let mut text = format!("code {code} rule {rule} limit {limit} frames {frames}\n");
     for (place, &(offset, length)) in pairs.iter().enumerate() {
         let llr = &values[offset as usize..(offset + length) as usize];
-        let (bits, count) = codes.decode(code, rule, scale, limit, llr);
-        let state = if clean(code, llr, &bits, count) { "clean" } else { "open" };
-        writeln!(text, "{place} {count} {state} {}", hex(&bits)).unwrap();
+        let (word, count) = codes.decode(code, rule, scale, limit, llr);
+        let rounds = codes.rounds(code, rule, scale, limit, llr, count);
+        let bits = &word[..codes.k(code)];
+        let state = if clean(code, llr, bits, count) { "clean" } else { "open" };
+        let first = codes.first(code, &word).map_or(String::new(), |check| format!(" {check}"));
+        writeln!(text, "{place} {count} {rounds} {state} {}{first}", hex(bits)).unwrap();
     }
     text
 }
@@ -245,7 +285,7 @@ fn codeword(codes: &Codes, code: u8, random: &mut Random) -> Vec<u8> {
     if code == 3 {
         return encoded(&block(random));
     }
-    let c = &codes.0[code as usize];
+    let c = &codes.encoders[code as usize];
     let message: Vec<u8> = (0..c.k()).map(|_| random.word() as u8 & 1).collect();
     c.encode(&message)
 }
@@ -291,7 +331,7 @@ fn malformed_inputs(all: &mut Vec<Vec<u8>>) {
         all.push(one[..length].to_vec());
     }
     // 13 before 1, 2 and 3
-    for (code, rule) in [(4, 0), (0, 4), (3, 1)] {
+    for (code, rule) in [(4, 0), (0, 5), (0, 4), (3, 1)] {
         let mut s = Input::new(code, rule, 0).bytes();
         s.push(0);
         all.push(s);
@@ -299,7 +339,7 @@ fn malformed_inputs(all: &mut Vec<Vec<u8>>) {
 }
 
 fn refused_inputs(all: &mut Vec<Vec<u8>>) {
-    for (code, rule) in [(4, 0), (255, 255), (0, 4), (3, 255), (3, 1), (3, 2), (4, 4), (2, 3)] {
+    for (code, rule) in [(4, 0), (255, 255), (0, 5), (3, 255), (3, 5), (3, 1), (3, 2), (0, 4), (1, 4), (2, 4), (4, 4), (4, 5), (2, 3), (3, 4)] {
         all.push(Input::new(code, rule, 7).bytes());
     }
     let values = [1.0f32; 348];
@@ -332,7 +372,7 @@ fn refused_inputs(all: &mut Vec<Vec<u8>>) {
     for count in [24, 25, 26, 49] {
         all.push(many(count).values(&[1.0; 10]).bytes());
     }
-    for (code, rule) in [(3, 0), (4, 0), (0, 4), (3, 1)] {
+    for (code, rule) in [(3, 0), (4, 0), (0, 5), (0, 4), (3, 1)] {
         let mut most = many(8190).values(&[1.0]);
         most.code = code;
         most.rule = rule;
@@ -347,7 +387,7 @@ fn refused_inputs(all: &mut Vec<Vec<u8>>) {
 fn faulty_twice(all: &mut Vec<Vec<u8>>) {
     let fault = |input: &mut Input, which: usize| match which {
         0 => input.code = 4,
-        1 => input.rule = 4,
+        1 => input.rule = 5,
         2 => input.rule = 1,
         3 => input.pairs = (0..25).map(|j| (174 * j, 174)).collect(),
         4 => input.pairs[0].1 = 173,
@@ -381,7 +421,7 @@ fn longest_inputs(codes: &Codes, random: &mut Random, all: &mut Vec<Vec<u8>>) {
 // Frames of each code under each rule, with gaps between them, at several noises and limits.
 fn decoded_inputs(codes: &Codes, random: &mut Random, all: &mut Vec<Vec<u8>>) {
     for code in 0..4 {
-        for rule in 0..4 {
+        for rule in 0..5 {
             for limit in [0, 1, 2, 15] {
                 let mut input = Input::new(code, rule, limit).scale(0.75f32.to_bits());
                 for noise in [0.4, 0.8] {
@@ -441,7 +481,7 @@ fn hostile(codes: &Codes, code: u8, kind: usize, random: &mut Random) -> Vec<f32
 fn decoder_inputs(codes: &Codes, random: &mut Random, all: &mut Vec<Vec<u8>>) {
     let scales = [0.75f32.to_bits(), 0xC000_0000, 0x0000_0007, 0x7F80_0000, 0x8000_0000, 0x7FC0_0001];
     for code in 0..4 {
-        for rule in if code == 3 { 0..1 } else { 0..3 } {
+        for rule in if code == 3 { vec![0, 4] } else { vec![0, 1, 2] } {
             for (turn, limit) in [0, 1, 2, 5, 20, 50].into_iter().enumerate() {
                 let mut input = Input::new(code, rule, limit).scale(scales[turn]);
                 for i in 0..5 {
@@ -470,24 +510,24 @@ fn batch_inputs(codes: &Codes, random: &mut Random, all: &mut Vec<Vec<u8>>) {
 }
 
 // One nearly lost frame through batches at different places, beside different neighbours, under limits 0 to 30.
-// Its count never rises, and equal counts have equal bits.
+// Its count never rises, and equal counts have equal words.
 fn carried_inputs(codes: &Codes, random: &mut Random, all: &mut Vec<Vec<u8>>) {
-    for code in 0..4 {
+    for (code, rule) in [(0, 0), (1, 0), (2, 0), (3, 0), (3, 4)] {
         let frame = noisy(codes, code, 0.78, random);
         let mut last: Option<(Vec<u8>, usize)> = None;
         for limit in 0..31 {
             let place = limit as usize % 3;
-            let mut input = Input::new(code, 0, limit);
+            let mut input = Input::new(code, rule, limit);
             for j in 0..3 {
                 let other = noisy(codes, code, 0.9, random);
                 input = input.values(&[0.5; 1]).frame(if j == place { &frame } else { &other });
             }
             all.push(input.bytes());
-            let (bits, found) = codes.decode(code, 0, 0.0, limit, &frame);
+            let (word, found) = codes.decode(code, rule, 0.0, limit, &frame);
             if let Some((before, count)) = &last {
-                assert!(found <= *count && (found != *count || bits == *before));
+                assert!(found <= *count && (found != *count || word == *before));
             }
-            last = Some((bits, found));
+            last = Some((word, found));
         }
     }
 }
@@ -538,16 +578,16 @@ fn checksum_inputs(codes: &Codes, random: &mut Random, all: &mut Vec<Vec<u8>>) {
 
 // Frames at several noises, each under limits from 0 to 30: once a frame is clean, it is clean under every larger limit.
 fn kept_inputs(codes: &Codes, random: &mut Random, all: &mut Vec<Vec<u8>>) {
-    for code in 0..4 {
+    for (code, rule) in [(0, 0), (1, 0), (2, 0), (3, 0), (3, 4)] {
         for noise in [0.3, 0.4, 0.5, 0.6] {
             let frame = received(&sent(codes, code, random), noise, random);
             let mut before = false;
             for limit in [0, 1, 2, 3, 4, 5, 10, 20, 30] {
-                let (bits, count) = codes.decode(code, 0, 0.0, limit, &frame);
-                let now = clean(code, &frame, &bits, count);
+                let (word, count) = codes.decode(code, rule, 0.0, limit, &frame);
+                let now = clean(code, &frame, &word[..codes.k(code)], count);
                 assert!(now || !before);
                 before = now;
-                all.push(Input::new(code, 0, limit).frame(&frame).bytes());
+                all.push(Input::new(code, rule, limit).frame(&frame).bytes());
             }
         }
     }
@@ -564,7 +604,7 @@ fn sample(codes: &Codes, code: u8, random: &mut Random) -> Vec<u8> {
 }
 
 fn main() {
-    let codes = Codes([LdpcCode::N512R12, LdpcCode::N576R23, LdpcCode::N512R34].map(Ldpc::new));
+    let codes = Codes::new();
     let random = &mut Random(0x9E37_79B9_7F4A_7C15);
     let first = Input::new(3, 0, 20).frame(&[1.0; 174]).bytes();
     fs::write("crates/batchlist/stdin", &first).unwrap();

@@ -5,7 +5,8 @@
 //
 // All numbers are hexadecimal: first each code's msg_col_rows (with 0000, the relaxed picks, which the Rust does not count), then each code's
 // check_bits with their starts, then for each code the edges of each bit with their starts, an edge being the place of the bit in the joined
-// check_bits. Then for each word the codewords of its first K bytes and its syndrome weights, code by code.
+// check_bits. Then for each word the codewords of its first K bytes and its syndrome weights, each with the first check
+// that it counts, code by code.
 #![allow(dead_code)]
 include!(concat!(env!("ORION_SRC"), "/ldpc_codes.rs"));
 
@@ -86,6 +87,11 @@ fn hex(bytes: &[u8]) -> String {
     bytes.iter().map(|b| format!("{b:02x}")).collect::<String>() + "\n"
 }
 
+// The lowest check whose low bits' XOR is not zero, as the Rust's weight forms it.
+fn first(c: &Ldpc, word: &[u8]) -> Option<usize> {
+    c.check_bits.iter().position(|bits| bits.iter().fold(0, |x, &b| x ^ word[b] & 1) != 0)
+}
+
 fn main() {
     let folder = std::env::args().nth(1).expect("the folder of the crate");
     let codes: Vec<Ldpc> = CODES.iter().map(|&c| Ldpc::new(c)).collect();
@@ -97,6 +103,7 @@ fn main() {
         }
         for c in &codes {
             stdout += &format!("{:04x}", c.syndrome_weight(&word));
+            stdout += &first(c, &word).map_or("----".to_string(), |check| format!("{check:04x}"));
         }
         stdout += "\n";
         stdin.extend(&word);

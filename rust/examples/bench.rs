@@ -24,7 +24,7 @@ fn main() {
 mod compared {
     use crate::common::{noisy, Random};
     use crate::orion;
-    use desklink::{Batch, BatchCode, DecodeRule, Ldpc, LdpcCode};
+    use desklink::{Batch, Code, DecodeRule, Ldpc, LdpcCode};
     use std::hint::black_box;
     use std::time::Instant;
 
@@ -154,7 +154,7 @@ mod compared {
                     black_box(orion::ldpc::ldpc_decode_soft(black_box(&frames[j]), LIMIT.into(), &mut b));
                 },
             );
-            batch_row(&format!("ldpc_decode_soft, {what}, 24 frames"), BatchCode::Ft8, &frames, &mut || {
+            batch_row(&format!("ldpc_decode_soft, {what}, 24 frames"), (Code::Ft8, DecodeRule::SumProduct), &frames, &mut || {
                 for f in &frames {
                     black_box(orion::ldpc::ldpc_decode_soft(black_box(f), LIMIT.into(), &mut b));
                 }
@@ -163,13 +163,24 @@ mod compared {
     }
 
     /// 24 frames: one batch of the port, and 24 calls of the original.
-    fn batch_row<T: AsRef<[f32]>>(name: &str, code: BatchCode, frames: &[T], original: &mut dyn FnMut()) {
+    fn batch_row<T: AsRef<[f32]>>(name: &str, (code, rule): (Code, DecodeRule), frames: &[T], original: &mut dyn FnMut()) {
         let values: Vec<f32> = frames.iter().flat_map(|f| f.as_ref().to_vec()).collect();
         let pairs: Vec<[u32; 2]> = (0..frames.len()).map(|j| [(j * code.n()) as u32, code.n() as u32]).collect();
-        let (mut bits, mut counts) = (vec![0; frames.len() * code.k()], vec![0; frames.len()]);
+        let mut bits = vec![0; frames.len() * code.k()];
+        let [mut counts, mut rounds, mut firsts] = [0; 3].map(|n| vec![n; frames.len()]);
         let mut port = || {
-            let (values, pairs) = (black_box(&values[..]), &pairs[..]);
-            Batch { code, limit: LIMIT, values, pairs, bits: &mut bits, counts: &mut counts }.decode().unwrap();
+            let batch = Batch {
+                code,
+                rule,
+                limit: LIMIT,
+                values: black_box(&values),
+                pairs: &pairs,
+                bits: &mut bits,
+                counts: &mut counts,
+                rounds: &mut rounds,
+                firsts: &mut firsts,
+            };
+            batch.decode().unwrap();
         };
         row(name, &mut port, original);
     }
@@ -210,7 +221,7 @@ mod compared {
                         drop(black_box(original.decode_soft_with(black_box(&frames[j]), LIMIT.into(), theirs)));
                     },
                 );
-                batch_row(&format!("{code:?} {rule}, {what}, 24 frames"), BatchCode::Staircase(code, ours), &frames, &mut || {
+                batch_row(&format!("{code:?} {rule}, {what}, 24 frames"), (code.into(), ours), &frames, &mut || {
                     for f in &frames {
                         drop(black_box(original.decode_soft_with(black_box(f), LIMIT.into(), theirs)));
                     }

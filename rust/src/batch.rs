@@ -1,51 +1,73 @@
 //! Many frames of one code in one call.
 use crate::{slices, with_work, DecodeRule, LdpcCode, Refusal};
 
-/// The codes of a batch: the three staircase codes, and (174,91), which sum-product alone decodes.
-#[derive(Debug, Clone, Copy, PartialEq)]
-pub enum BatchCode {
-    Staircase(LdpcCode, DecodeRule),
+/// The codes of a batch: the three staircase codes, and (174,91).
+#[derive(Debug, Clone, Copy, PartialEq, Eq)]
+pub enum Code {
+    /// One of the staircase codes, 0 to 2.
+    Staircase(LdpcCode),
+    /// FT8's (174,91) code, number 3.
     Ft8,
 }
 
-impl BatchCode {
-    /// Values of a frame.
+impl Code {
+    /// Values of a frame, which are the bits of its codeword.
     pub fn n(self) -> usize {
         match self {
-            BatchCode::Staircase(code, _) => code.n(),
-            BatchCode::Ft8 => crate::N,
+            Code::Staircase(code) => code.n(),
+            Code::Ft8 => crate::N,
         }
     }
 
     /// Message bits of a frame.
     pub fn k(self) -> usize {
         match self {
-            BatchCode::Staircase(code, _) => code.k(),
-            BatchCode::Ft8 => crate::K,
+            Code::Staircase(code) => code.k(),
+            Code::Ft8 => crate::K,
         }
+    }
+
+    /// The number that the library knows the code by.
+    pub fn number(self) -> u32 {
+        match self {
+            Code::Staircase(code) => code.number(),
+            Code::Ft8 => 3,
+        }
+    }
+}
+
+impl From<LdpcCode> for Code {
+    fn from(code: LdpcCode) -> Code {
+        Code::Staircase(code)
     }
 }
 
 /// A batch: what it reads and where it writes, borrowed for the call.
 ///
 /// ```
-/// use desklink::{Batch, BatchCode, Refusal};
-/// let (mut bits, mut counts) = ([9; 2 * 91], [9; 2]);
+/// use desklink::{slices, Batch, Code, DecodeRule, Refusal};
+/// let (mut bits, mut counts, mut rounds, mut firsts) = ([9; 2 * 91], [9; 2], [9; 2], [9; 2]);
 /// let batch = Batch {
-///     code: BatchCode::Ft8,
+///     code: Code::Ft8,
+///     rule: DecodeRule::default(),
 ///     limit: 20,
 ///     values: &[1.0; 348],
 ///     pairs: &[[0, 174], [174, 174]],
 ///     bits: &mut bits,
 ///     counts: &mut counts,
+///     rounds: &mut rounds,
+///     firsts: &mut firsts,
 /// };
 /// batch.decode()?;
-/// assert_eq!((bits, counts), ([0; 182], [0; 2]));
+/// assert_eq!((bits, counts, rounds, firsts), ([0; 182], [0; 2], [0; 2], [slices::NO_CHECK; 2]));
 /// # Ok::<(), Refusal>(())
 /// ```
 #[derive(Debug)]
 pub struct Batch<'a> {
-    pub code: BatchCode,
+    /// The code of every frame.
+    pub code: Code,
+    /// The rule of every frame.
+    pub rule: DecodeRule,
     /// The most rounds of a frame.
     pub limit: u16,
     /// The channel values of all frames.
@@ -56,16 +78,26 @@ pub struct Batch<'a> {
     pub bits: &'a mut [u8],
     /// One place a pair: how many checks the frame's chosen word leaves unsatisfied.
     pub counts: &'a mut [u16],
+    /// One place a pair: how many rounds it ran.
+    pub rounds: &'a mut [u16],
+    /// One place a pair: the lowest check that the chosen word leaves unsatisfied, or [`slices::NO_CHECK`].
+    pub firsts: &'a mut [u16],
 }
 
 impl Batch<'_> {
+    /// Decodes every frame, or is refused and writes nothing.
     pub fn decode(self) -> Result<(), Refusal> {
-        let (code, (rule, scale)) = match self.code {
-            BatchCode::Staircase(code, rule) => (code.number(), rule.number_and_scale()),
-            BatchCode::Ft8 => (3, (0, 0.0)),
-        };
-        with_work(|work| {
-            slices::decode_batch(code, rule, self.limit, scale, self.values, self.pairs, self.bits, self.counts, work)
-        })
+        self.by(slices::decode_batch)
+    }
+
+    /// The same of a batch that was stored when the house default stood for sum-product: rule 3 is taken as rule 0.
+    pub fn decode_stored(self) -> Result<(), Refusal> {
+        self.by(slices::decode_stored_batch)
+    }
+
+    fn by(self, call: slices::BatchCall) -> Result<(), Refusal> {
+        let (rule, scale) = self.rule.number_and_scale();
+        let out = slices::Outputs { bits: self.bits, counts: self.counts, rounds: self.rounds, firsts: self.firsts };
+        with_work(|work| call(self.code.number(), rule, self.limit, scale, self.values, self.pairs, out, work))
     }
 }

@@ -19,7 +19,7 @@ mod refusal;
 pub mod slices;
 mod staircase;
 
-pub use batch::{Batch, BatchCode};
+pub use batch::{Batch, Code};
 pub use refusal::Refusal;
 pub use staircase::{DecodeRule, Ldpc, LdpcCode};
 
@@ -95,7 +95,7 @@ pub fn ldpc_encode(message: &[u8; K_BYTES], codeword: &mut [u8; N_BYTES]) -> Res
 /// assert_eq!(desklink::ldpc_count_errors(&[1; 174]), 24);
 /// ```
 pub fn ldpc_count_errors(hard: &[u8; N]) -> usize {
-    slices::ldpc_count_errors(hard).expect("the length is fixed by its type").into()
+    slices::ldpc_count_errors(hard).expect("the length is fixed by its type").count.into()
 }
 
 /// Decodes 174 channel values, positive where 0 is likelier, in at most `max_iter` rounds; answers how many checks the
@@ -109,5 +109,6 @@ pub fn ldpc_count_errors(hard: &[u8; N]) -> usize {
 pub fn ldpc_decode_soft(llr: &[f32; N], max_iter: u16, plain: &mut [u8; N]) -> usize {
     with_work(|work| slices::ldpc_decode_soft(llr, max_iter, plain, work))
         .expect("the lengths are fixed by their types")
+        .count
         .into()
 }

@@ -18,7 +18,7 @@ pub enum Refusal {
     PairOrder = 11,
     PairPastEnd = 12,
     Malformed = 13,
-    UnknownByte = 16,
+    ErasureByte = 16,
     ByteOutOfRange = 17,
     NotEighths = 18,
 }
@@ -38,7 +38,7 @@ impl Refusal {
         Refusal::PairOrder,
         Refusal::PairPastEnd,
         Refusal::Malformed,
-        Refusal::UnknownByte,
+        Refusal::ErasureByte,
         Refusal::ByteOutOfRange,
         Refusal::NotEighths,
     ];
@@ -62,8 +62,8 @@ impl fmt::Display for Refusal {
     fn fmt(&self, f: &mut fmt::Formatter<'_>) -> fmt::Result {
         f.write_str(match self {
             Refusal::UnknownCode => "no such code: use 0, 1 or 2 for a staircase code, and 3 for (174,91) in a batch",
-            Refusal::UnknownRule => "no such decode rule: use 0 to 3",
-            Refusal::RuleNotOfCode => "(174,91) is decoded by sum-product alone: use rule 0 or 3 with code 3",
+            Refusal::UnknownRule => "no such decode rule: use 0 to 4",
+            Refusal::RuleNotOfCode => "the rule is not one of the code's: use 0, 3 or 4 with (174,91), and 0 to 3 with a staircase code",
             Refusal::InputLength => "an input has the wrong length: pass K message bytes, N values, or as many bytes as the bits need",
             Refusal::WordTooShort => "the word to be counted is shorter than the code's N: pass at least N bytes",
             Refusal::MessageSlack => "the message has set bits past its 91: clear the low five bits of byte 11",
@@ -74,7 +74,7 @@ impl fmt::Display for Refusal {
             Refusal::PairOrder => "a pair starts below the end of the one before: sort the pairs by offset, with no overlap",
             Refusal::PairPastEnd => "a pair ends past the values: pass all the values that the pairs name",
             Refusal::Malformed => "the input is malformed",
-            Refusal::UnknownByte => "a byte of the word to be mended is above 2: write 0 or 1 for a known bit, and 2 for an unknown one",
+            Refusal::ErasureByte => "a byte of the word with erasures is above 2: write 0 or 1 for a known bit, and 2 for an unknown one",
             Refusal::ByteOutOfRange => "a soft byte is -128: soft bytes go from -127 to 127",
             Refusal::NotEighths => "a value is no soft byte's: eight times it must be a whole number from -127 to 127, and -0.0 is none",
         })

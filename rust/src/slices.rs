@@ -7,18 +7,20 @@ mod ffi {
         pub fn desklink_ft8_add_crc(payload: *const u8, payload_len: usize, a91: *mut u8, a91_len: usize) -> i32;
         pub fn desklink_ft8_extract_crc(a91: *const u8, a91_len: usize) -> i32;
         pub fn desklink_ldpc_encode(message: *const u8, message_len: usize, codeword: *mut u8, codeword_len: usize) -> i32;
-        pub fn desklink_ldpc_count_errors(hard: *const u8, hard_len: usize) -> i32;
+        pub fn desklink_ldpc_count_errors(hard: *const u8, hard_len: usize, first: *mut u16) -> i32;
         pub fn desklink_ldpc_decode_soft(
             llr: *const f32,
             llr_len: usize,
             limit: u16,
             plain: *mut u8,
             plain_len: usize,
+            rounds: *mut u16,
+            first: *mut u16,
             work: *mut f32,
             work_len: usize,
         ) -> i32;
         pub fn desklink_encode(code: u32, message: *const u8, message_len: usize, codeword: *mut u8, codeword_len: usize) -> i32;
-        pub fn desklink_syndrome_weight(code: u32, hard: *const u8, hard_len: usize) -> i32;
+        pub fn desklink_syndrome_weight(code: u32, hard: *const u8, hard_len: usize, first: *mut u16) -> i32;
         pub fn desklink_decode_soft(
             code: u32,
             limit: u16,
@@ -26,6 +28,8 @@ mod ffi {
             llr_len: usize,
             bits: *mut u8,
             bits_len: usize,
+            rounds: *mut u16,
+            first: *mut u16,
             work: *mut f32,
             work_len: usize,
         ) -> i32;
@@ -38,6 +42,8 @@ mod ffi {
             llr_len: usize,
             bits: *mut u8,
             bits_len: usize,
+            rounds: *mut u16,
+            first: *mut u16,
             work: *mut f32,
             work_len: usize,
         ) -> i32;
@@ -54,10 +60,34 @@ mod ffi {
             bits_len: usize,
             counts: *mut u16,
             counts_len: usize,
+            rounds: *mut u16,
+            rounds_len: usize,
+            firsts: *mut u16,
+            firsts_len: usize,
             work: *mut f32,
             work_len: usize,
         ) -> i32;
-        pub fn desklink_mend(code: u32, word: *mut u8, word_len: usize, places: *mut u16, places_len: usize) -> i32;
+        pub fn desklink_decode_stored_batch(
+            code: u32,
+            rule: u32,
+            limit: u16,
+            scale: f32,
+            values: *const f32,
+            values_len: usize,
+            pairs: *const u32,
+            pairs_len: usize,
+            bits: *mut u8,
+            bits_len: usize,
+            counts: *mut u16,
+            counts_len: usize,
+            rounds: *mut u16,
+            rounds_len: usize,
+            firsts: *mut u16,
+            firsts_len: usize,
+            work: *mut f32,
+            work_len: usize,
+        ) -> i32;
+        pub fn desklink_fill_erasures(code: u32, word: *mut u8, word_len: usize, places: *mut u16, places_len: usize) -> i32;
         pub fn desklink_values_of_bytes(bytes: *const i8, bytes_len: usize, positive_is_one: u32, values: *mut f32, values_len: usize) -> i32;
         pub fn desklink_bytes_of_values(values: *const f32, values_len: usize, positive_is_one: u32, bytes: *mut i8, bytes_len: usize) -> i32;
     }
@@ -65,6 +95,37 @@ mod ffi {
 
 /// The length of a work area that is never too short.
 pub const WORK: usize = 3070;
+
+/// The most pairs of a batch.
+pub const MOST_PAIRS: usize = 24;
+
+/// What a batch writes as the first check of a frame whose checks are all satisfied.
+pub const NO_CHECK: u16 = 65_535;
+
+/// What is told of a word: how many parity checks it leaves unsatisfied, 0 for a codeword, and the first of them.
+#[derive(Debug, Clone, Copy, PartialEq, Eq)]
+pub struct Counted {
+    /// How many checks are unsatisfied.
+    pub count: u16,
+    /// The lowest of their numbers, counted from 0, or `None` where the count is 0.
+    pub first: Option<u16>,
+}
+
+/// What is told of a decode beside the bits.
+#[derive(Debug, Clone, Copy, PartialEq, Eq)]
+pub struct Decoded {
+    /// How many checks the chosen word leaves unsatisfied.
+    pub count: u16,
+    /// How many rounds were run.
+    pub rounds: u16,
+    /// The lowest check that the chosen word leaves unsatisfied, or `None` where the count is 0.
+    pub first: Option<u16>,
+}
+
+/// The check that a number of the library names.
+fn check(number: u16) -> Option<u16> {
+    Some(number).filter(|&c| c != NO_CHECK)
+}
 
 /// A value from 0 up, or minus a refusal's number. Every value of the library fits 16 bits.
 fn answer(number: i32) -> Result<u16, Refusal> {
@@ -98,23 +159,29 @@ pub fn ldpc_encode(message: &[u8], codeword: &mut [u8]) -> Result<(), Refusal> {
 }
 
 /// The (174,91) checks whose bytes XOR to other than 0.
-pub fn ldpc_count_errors(hard: &[u8]) -> Result<u16, Refusal> {
-    answer(unsafe { ffi::desklink_ldpc_count_errors(hard.as_ptr(), hard.len()) })
+pub fn ldpc_count_errors(hard: &[u8]) -> Result<Counted, Refusal> {
+    let mut first = NO_CHECK;
+    let count = answer(unsafe { ffi::desklink_ldpc_count_errors(hard.as_ptr(), hard.len(), &mut first) })?;
+    Ok(Counted { count, first: check(first) })
 }
 
 /// 174 values to 174 bits and the count of unsatisfied checks.
-pub fn ldpc_decode_soft(llr: &[f32], limit: u16, plain: &mut [u8], work: &mut [f32]) -> Result<u16, Refusal> {
-    answer(unsafe {
+pub fn ldpc_decode_soft(llr: &[f32], limit: u16, plain: &mut [u8], work: &mut [f32]) -> Result<Decoded, Refusal> {
+    let (mut rounds, mut first) = (0, NO_CHECK);
+    let count = answer(unsafe {
         ffi::desklink_ldpc_decode_soft(
             llr.as_ptr(),
             llr.len(),
             limit,
             plain.as_mut_ptr(),
             plain.len(),
+            &mut rounds,
+            &mut first,
             work.as_mut_ptr(),
             work.len(),
         )
-    })
+    })?;
+    Ok(Decoded { count, rounds, first: check(first) })
 }
 
 /// K message bytes to a staircase codeword of N.
@@ -123,13 +190,16 @@ pub fn encode(code: u32, message: &[u8], codeword: &mut [u8]) -> Result<(), Refu
 }
 
 /// The staircase checks that the low bits of the first N bytes leave unsatisfied.
-pub fn syndrome_weight(code: u32, hard: &[u8]) -> Result<u16, Refusal> {
-    answer(unsafe { ffi::desklink_syndrome_weight(code, hard.as_ptr(), hard.len()) })
+pub fn syndrome_weight(code: u32, hard: &[u8]) -> Result<Counted, Refusal> {
+    let mut first = NO_CHECK;
+    let count = answer(unsafe { ffi::desklink_syndrome_weight(code, hard.as_ptr(), hard.len(), &mut first) })?;
+    Ok(Counted { count, first: check(first) })
 }
 
 /// N values to K bits and the count of unsatisfied checks, by sum-product.
-pub fn decode_soft(code: u32, limit: u16, llr: &[f32], bits: &mut [u8], work: &mut [f32]) -> Result<u16, Refusal> {
-    answer(unsafe {
+pub fn decode_soft(code: u32, limit: u16, llr: &[f32], bits: &mut [u8], work: &mut [f32]) -> Result<Decoded, Refusal> {
+    let (mut rounds, mut first) = (0, NO_CHECK);
+    let count = answer(unsafe {
         ffi::desklink_decode_soft(
             code,
             limit,
@@ -137,13 +207,16 @@ pub fn decode_soft(code: u32, limit: u16, llr: &[f32], bits: &mut [u8], work: &m
             llr.len(),
             bits.as_mut_ptr(),
             bits.len(),
+            &mut rounds,
+            &mut first,
             work.as_mut_ptr(),
             work.len(),
         )
-    })
+    })?;
+    Ok(Decoded { count, rounds, first: check(first) })
 }
 
-/// The same by the rule with that number: 0 sum-product, 1 min-sum, 2 min-sum times `scale`, 3 the default, sum-product.
+/// The same by the rule with that number: 0 sum-product, 1 min-sum, 2 min-sum times `scale`, 3 the default, min-sum times 0.75.
 pub fn decode_soft_with(
     code: u32,
     rule: u32,
@@ -152,8 +225,9 @@ pub fn decode_soft_with(
     llr: &[f32],
     bits: &mut [u8],
     work: &mut [f32],
-) -> Result<u16, Refusal> {
-    answer(unsafe {
+) -> Result<Decoded, Refusal> {
+    let (mut rounds, mut first) = (0, NO_CHECK);
+    let count = answer(unsafe {
         ffi::desklink_decode_soft_with(
             code,
             rule,
@@ -163,46 +237,82 @@ pub fn decode_soft_with(
             llr.len(),
             bits.as_mut_ptr(),
             bits.len(),
+            &mut rounds,
+            &mut first,
             work.as_mut_ptr(),
             work.len(),
         )
-    })
+    })?;
+    Ok(Decoded { count, rounds, first: check(first) })
 }
 
-/// Many frames of one code: each pair is an offset into `values` and a length, which is N. `bits` has K places a pair, and
-/// `counts` one.
-#[allow(clippy::too_many_arguments)]
-pub fn decode_batch(
-    code: u32,
-    rule: u32,
-    limit: u16,
-    scale: f32,
-    values: &[f32],
-    pairs: &[[u32; 2]],
-    bits: &mut [u8],
-    counts: &mut [u16],
-    work: &mut [f32],
-) -> Result<(), Refusal> {
-    let pairs = pairs.as_flattened();
-    answer(unsafe {
-        ffi::desklink_decode_batch(
-            code,
-            rule,
-            limit,
-            scale,
-            values.as_ptr(),
-            values.len(),
-            pairs.as_ptr(),
-            pairs.len(),
-            bits.as_mut_ptr(),
-            bits.len(),
-            counts.as_mut_ptr(),
-            counts.len(),
-            work.as_mut_ptr(),
-            work.len(),
-        )
-    })
-    .map(drop)
+/// Where a batch writes: `bits` has K places a pair, and each of the others one.
+#[derive(Debug)]
+pub struct Outputs<'a> {
+    /// The message bits of each frame, in place order.
+    pub bits: &'a mut [u8],
+    /// How many checks each frame's chosen word leaves unsatisfied.
+    pub counts: &'a mut [u16],
+    /// The rounds that each frame ran.
+    pub rounds: &'a mut [u16],
+    /// The lowest check that each frame's chosen word leaves unsatisfied, or [`NO_CHECK`].
+    pub firsts: &'a mut [u16],
+}
+
+/// A batch call: [`decode_batch`] or [`decode_stored_batch`].
+pub type BatchCall = fn(u32, u32, u16, f32, &[f32], &[[u32; 2]], Outputs<'_>, &mut [f32]) -> Result<(), Refusal>;
+
+/// One of the two batch calls of the library, on Rust's slices.
+macro_rules! batch_call {
+    ($(#[$text:meta])* $name:ident $foreign:ident) => {
+        $(#[$text])*
+        #[allow(clippy::too_many_arguments)]
+        pub fn $name(
+            code: u32,
+            rule: u32,
+            limit: u16,
+            scale: f32,
+            values: &[f32],
+            pairs: &[[u32; 2]],
+            out: Outputs<'_>,
+            work: &mut [f32],
+        ) -> Result<(), Refusal> {
+            let pairs = pairs.as_flattened();
+            answer(unsafe {
+                ffi::$foreign(
+                    code,
+                    rule,
+                    limit,
+                    scale,
+                    values.as_ptr(),
+                    values.len(),
+                    pairs.as_ptr(),
+                    pairs.len(),
+                    out.bits.as_mut_ptr(),
+                    out.bits.len(),
+                    out.counts.as_mut_ptr(),
+                    out.counts.len(),
+                    out.rounds.as_mut_ptr(),
+                    out.rounds.len(),
+                    out.firsts.as_mut_ptr(),
+                    out.firsts.len(),
+                    work.as_mut_ptr(),
+                    work.len(),
+                )
+            })
+            .map(drop)
+        }
+    };
+}
+
+batch_call! {
+    /// Many frames of one code: each pair is an offset into `values` and a length, which is N.
+    decode_batch desklink_decode_batch
+}
+
+batch_call! {
+    /// The same of a batch that was stored when rule 3 stood for rule 0: 3 is taken as 0, and every other number as it is.
+    decode_stored_batch desklink_decode_stored_batch
 }
 
 /// Sets the unknown bits (2) of a recorded word of N bytes that the checks of code 0 to 3 decide, one after another, and lists their positions at
@@ -212,11 +322,11 @@ pub fn decode_batch(
 /// // All bits of the zero word but the last one are known: its checks decide it.
 /// let (mut word, mut places) = ([0; 174], [0; 174]);
 /// word[173] = 2;
-/// assert_eq!(desklink::slices::mend(3, &mut word, &mut places), Ok(1));
+/// assert_eq!(desklink::slices::fill_erasures(3, &mut word, &mut places), Ok(1));
 /// assert_eq!((word[173], places[0]), (0, 173));
 /// ```
-pub fn mend(code: u32, word: &mut [u8], places: &mut [u16]) -> Result<u16, Refusal> {
-    answer(unsafe { ffi::desklink_mend(code, word.as_mut_ptr(), word.len(), places.as_mut_ptr(), places.len()) })
+pub fn fill_erasures(code: u32, word: &mut [u8], places: &mut [u16]) -> Result<u16, Refusal> {
+    answer(unsafe { ffi::desklink_fill_erasures(code, word.as_mut_ptr(), word.len(), places.as_mut_ptr(), places.len()) })
 }
 
 /// Soft bytes in eighths, -127 to 127, to as many values, negated for a model that counts positive as 1.

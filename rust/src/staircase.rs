@@ -49,14 +49,20 @@ impl LdpcCode {
 }
 
 /// The check-node rule of a decode.
-#[derive(Debug, Clone, Copy, PartialEq)]
+#[derive(Debug, Clone, Copy, PartialEq, Default)]
 pub enum DecodeRule {
-    /// The tanh product.
+    /// Rule 0, the tanh product. On (174,91) it is the original's negated one, which pulls the wrong way at 24 of the 83
+    /// checks: use it there only where the original's answers are wanted.
     SumProduct,
-    /// The product of signs times the least magnitude.
+    /// Rule 1, the product of signs times the least magnitude. Not for (174,91).
     MinSum,
-    /// The same times this factor.
+    /// Rule 2, the same times this factor. Not for (174,91).
     ScaledMinSum(f32),
+    /// Rule 3, the house default: min-sum scaled by 0.75 on the staircase codes, and `Unnegated` on (174,91).
+    #[default]
+    House,
+    /// Rule 4, the tanh product with the right sign, for (174,91) alone.
+    Unnegated,
 }
 
 impl DecodeRule {
@@ -66,6 +72,8 @@ impl DecodeRule {
             DecodeRule::SumProduct => (0, 0.0),
             DecodeRule::MinSum => (1, 0.0),
             DecodeRule::ScaledMinSum(scale) => (2, scale),
+            DecodeRule::House => (3, 0.0),
+            DecodeRule::Unnegated => (4, 0.0),
         }
     }
 }
@@ -123,7 +131,7 @@ impl Ldpc {
     /// assert_eq!(code.syndrome_weight(&word[..511]), Err(Refusal::WordTooShort));
     /// ```
     pub fn syndrome_weight(&self, hard: &[u8]) -> Result<usize, Refusal> {
-        slices::syndrome_weight(self.code.number(), hard).map(usize::from)
+        slices::syndrome_weight(self.code.number(), hard).map(|counted| counted.count.into())
     }
 
     /// Sum-product decoding of N channel values, positive where 0 is likelier: the K message bits, and how many checks
@@ -154,7 +162,7 @@ impl Ldpc {
     pub fn decode_soft_with(&self, llr: &[f32], max_iter: u16, rule: DecodeRule) -> Result<(Vec<u8>, usize), Refusal> {
         let (rule, scale) = rule.number_and_scale();
         let mut bits = vec![0; self.k()];
-        let count = with_work(|work| slices::decode_soft_with(self.code.number(), rule, scale, max_iter, llr, &mut bits, work))?;
-        Ok((bits, count.into()))
+        let told = with_work(|work| slices::decode_soft_with(self.code.number(), rule, scale, max_iter, llr, &mut bits, work))?;
+        Ok((bits, told.count.into()))
     }
 }

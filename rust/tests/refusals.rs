@@ -144,7 +144,7 @@ fn staircase_decode() {
                             (output != k, Refusal::OutputLength),
                             (area < 3070, Refusal::WorkTooShort),
                         ];
-                        let with = [&[(code > 2, Refusal::UnknownCode), (rule > 3, Refusal::UnknownRule)][..], &frame].concat();
+                        let with = [&[(code > 2, Refusal::UnknownCode), (rule > 4, Refusal::UnknownRule), (rule == 4, Refusal::RuleNotOfCode)][..], &frame].concat();
                         if expect(slices::decode_soft_with(code, rule, random.pattern(), 1, &llr, &mut bits, &mut work), first(&with)) {
                             assert!(bits == before && same_bits(&work, &held));
                         }
@@ -207,40 +207,42 @@ fn batch() {
     let random = &mut Random(6);
     for _ in 0..3_000 {
         let code = random.pick(&[0, 1, 2, 3, 3, 3, 4, 256, u32::MAX]);
-        let rule = random.pick(&[0, 0, 1, 2, 3, 3, 4, u32::MAX]);
+        let rule = random.pick(&[0, 0, 1, 2, 3, 4, 4, 5, u32::MAX]);
         let (n, k) = [(512, 256), (576, 384), (512, 384), (174, 91)][code.min(3) as usize];
         let pairs = some_pairs(random, n);
         let spare = random.pick(&[0, 0, 1, 5]);
         let room = pairs.len() * (n + 2) + spare;
         let values: Vec<f32> = vec![1.0; room - random.pick(&[0, 0, 0, 1, n]).min(room)];
         let bit_places = (pairs.len() * k + random.pick(&[0, 0, 0, 1])).saturating_sub(random.pick(&[0, 0, 0, 1]));
-        let count_places = (pairs.len() + random.pick(&[0, 0, 0, 1])).saturating_sub(random.pick(&[0, 0, 0, 1]));
+        let places = [0; 3].map(|_| (pairs.len() + usize::from(random.below(8) == 0)).saturating_sub(usize::from(random.below(8) == 0)));
         let area = random.pick(&[3070, 3070, 3071, 3069, 0]);
         let (bits_before, held) = (random.bytes(bit_places), (0..area).map(|_| random.pattern()).collect::<Vec<f32>>());
-        let counts_before: Vec<u16> = (0..count_places).map(|_| random.next() as u16).collect();
-        let (mut bits, mut counts, mut work) = (bits_before.clone(), counts_before.clone(), held.clone());
+        let numbers_before = places.map(|n| (0..n).map(|_| random.next() as u16).collect::<Vec<u16>>());
+        let (mut bits, mut numbers, mut work) = (bits_before.clone(), numbers_before.clone(), held.clone());
         let expected = first(&[
             (code > 3, Refusal::UnknownCode),
-            (rule > 3, Refusal::UnknownRule),
-            (code == 3 && (rule == 1 || rule == 2), Refusal::RuleNotOfCode),
+            (rule > 4, Refusal::UnknownRule),
+            (if code == 3 { rule == 1 || rule == 2 } else { rule == 4 }, Refusal::RuleNotOfCode),
             (pairs.len() > 24, Refusal::TooManyPairs),
             (bit_places != pairs.len() * k, Refusal::OutputLength),
-            (count_places != pairs.len(), Refusal::OutputLength),
+            (places != [pairs.len(); 3], Refusal::OutputLength),
             (area < 3070, Refusal::WorkTooShort),
         ])
         .or_else(|| pair_fault(n, values.len(), &pairs));
-        let answer = slices::decode_batch(code, rule, 2, 0.5, &values, &pairs, &mut bits, &mut counts, &mut work);
-        if expect(answer, expected) {
-            assert!(bits == bits_before && counts == counts_before && same_bits(&work, &held));
+        let [counts, rounds, firsts] = &mut numbers;
+        let out = slices::Outputs { bits: &mut bits, counts, rounds, firsts };
+        if expect(slices::decode_batch(code, rule, 2, 0.5, &values, &pairs, out, &mut work), expected) {
+            assert!(bits == bits_before && numbers == numbers_before && same_bits(&work, &held));
         } else {
-            assert!(bits.iter().all(|&b| b == 0) && counts.iter().all(|&c| c == 0));
+            assert!(bits.iter().all(|&b| b == 0));
+            assert_eq!(numbers, [0, 0, slices::NO_CHECK].map(|n| vec![n; pairs.len()]));
             assert!(work[..3070].iter().all(|v| v.to_bits() == 0) && same_bits(&work[3070..], &held[3070..]));
         }
     }
 }
 
 #[test]
-fn mender() {
+fn erasures() {
     let random = &mut Random(7);
     for code in [0, 1, 2, 3, 4, 256, u32::MAX] {
         let n = if code < 3 { N[code as usize] } else { 174 };
@@ -257,9 +259,9 @@ fn mender() {
                     (code > 3, Refusal::UnknownCode),
                     (length != n, Refusal::InputLength),
                     (listed != n, Refusal::OutputLength),
-                    (top > 2, Refusal::UnknownByte),
+                    (top > 2, Refusal::ErasureByte),
                 ]);
-                if expect(slices::mend(code, &mut word, &mut places), expected) {
+                if expect(slices::fill_erasures(code, &mut word, &mut places), expected) {
                     assert!(word == before && places == places_before);
                 }
             }

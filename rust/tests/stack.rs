@@ -39,9 +39,11 @@ fn batch() {
         let (n, k) = [(512, 256), (576, 384), (512, 384), (174, 91)][code as usize];
         let values: Vec<f32> = (0..24 * n).map(|_| random.normal() as f32).collect();
         let pairs: Vec<[u32; 2]> = (0..24).map(|j| [(j * n) as u32, n as u32]).collect();
-        let (mut bits, mut counts, mut work) = (vec![0; 24 * k], vec![0; 24], vec![0.0; slices::WORK]);
+        let (mut bits, mut work) = (vec![0; 24 * k], vec![0.0; slices::WORK]);
+        let [mut counts, mut rounds, mut firsts] = [0; 3].map(|n| vec![n; 24]);
         on_small_stack(move || {
-            slices::decode_batch(code, 0, 5, 1.0, &values, &pairs, &mut bits, &mut counts, &mut work).unwrap();
+            let out = slices::Outputs { bits: &mut bits, counts: &mut counts, rounds: &mut rounds, firsts: &mut firsts };
+            slices::decode_batch(code, 0, 5, 1.0, &values, &pairs, out, &mut work).unwrap();
         });
     }
 }

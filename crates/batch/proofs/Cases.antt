@@ -11,23 +11,24 @@ use Rattle.ldpc.specs.Code174.{checks, rowsOfSeven}
 use Rattle.ldpc.proofs.Cases.{code-cases}
 use Rattle.ldpc_codes.proofs.Cases.{cases0, cases1, cases2}
 use Rattle.belief.specs.Rounds.{initialWord, wordsFrom, roundWords, chosenFrom, chosen, chosenCount, chosenBits}
+use Rattle.softmath.specs.declared.DecodeRule.the-variants.{Ft8}
 use Rattle.decoders.specs.Decodes.{ft8Decode}
 use Rattle.batch.specs.Cases.{minusZeros, nans, table, Yields}
 
 -- at limit 0 the initial word is chosen
-ones : chosenBits (ft8Decode minusZeros) 0 174 ≡ replicate 174 1
+ones : chosenBits (ft8Decode Ft8 minusZeros) 0 174 ≡ replicate 174 1
 unfolding chosenBits chosen roundWords wordsFrom chosenFrom initialWord decide neg le ofBits count parity checks rowsOfSeven nm numRows
 ones = refl
 
-ones-count : chosenCount (ft8Decode minusZeros) 0 ≡ 24
+ones-count : chosenCount (ft8Decode Ft8 minusZeros) 0 ≡ 24
 unfolding chosenCount chosen roundWords wordsFrom chosenFrom initialWord decide neg le ofBits count parity checks rowsOfSeven nm numRows
 ones-count = refl
 
-zeros : chosenBits (ft8Decode nans) 0 174 ≡ replicate 174 0
+zeros : chosenBits (ft8Decode Ft8 nans) 0 174 ≡ replicate 174 0
 unfolding chosenBits chosen roundWords wordsFrom chosenFrom initialWord decide le ofBits count parity checks rowsOfSeven nm numRows
 zeros = refl
 
-zeros-count : chosenCount (ft8Decode nans) 0 ≡ 0
+zeros-count : chosenCount (ft8Decode Ft8 nans) 0 ≡ 0
 unfolding chosenCount chosen roundWords wordsFrom chosenFrom initialWord decide le ofBits count parity checks rowsOfSeven nm numRows
 zeros-count = refl
 

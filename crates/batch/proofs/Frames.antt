@@ -6,51 +6,47 @@ use native.Mathlib.Nat.{mul-le-mul, suc-mul}
 use native.Mathlib.Numerals.{add-one}
 use native.Mathlib.Omega.{arith}
 use lib.Ieee.{Float}
-use lib.ListN.{length, getD, take, drop, length-append, length-map, length-take, length-drop, replicate, length-replicate, drop-of-length-le, List·getD-map}
+use lib.ListN.{length, getD, take, drop, set, length-set, length-append, length-map, length-take, length-drop, replicate, length-replicate, drop-of-length-le, List·getD-map}
 use lib.Seq.{take-at, drop-at, drop-cons, take-all, length-take-le}
 use Rattle.softmath.specs.declared.DecodeRule.{DecodeRule}
 use Rattle.tanner.specs.Flat.{joined}
-use Rattle.belief.specs.Rounds.{Decode}
 use Rattle.belief.specs.Chosen.{Chose}
 use Rattle.belief.specs.Graph.{cleared}
+use Rattle.belief.proofs.Fill.{fill-more, fill-done}
 use Rattle.softmath.specs.Single.{zero32}
 use Rattle.staircase.specs.Codes.{codeOf}
 use Rattle.decoders.specs.Decodes.{ruleOf, staircaseDecode, ft8Decode}
-use Rattle.batch.specs.Codes.{sizeK, decodeOf}
-use Rattle.batch.specs.Pairs.{Pair, pairsOf, frameOf, framesOf}
-use Rattle.batch.specs.Calls.{frameCount, frameBits, batchCounts, AllWithin}
+use Rattle.belief.specs.declared.Decoded.{Decoded}
+use Rattle.batch.specs.Codes.{decodeBy, decodeOf}
+use Rattle.batch.specs.Pairs.{Pair, pairsOf, frameOf, framesOf, AllWithin}
+use Rattle.batch.specs.Calls.{Lent, lent}
 use Rattle.batch.proofs.Pairs.{pairs-length, pair-at, within-at}
 
 -- ---- one frame
 
-decode-ft8-is : (n rule : ℕ) (scale : Float) (llr : List Float) → 2 < n → ft8Decode llr ≡ decodeOf n rule scale llr
-unfolding decodeOf
+decode-ft8-is : (n rule : ℕ) (scale : Float) (llr : List Float) → 2 < n → ft8Decode (ruleOf n rule scale) llr ≡ decodeOf n rule scale llr
+unfolding decodeBy
 decode-ft8-is zero rule scale llr h = absurd (omega arith)
 decode-ft8-is (suc zero) rule scale llr h = absurd (omega arith)
 decode-ft8-is (suc (suc zero)) rule scale llr h = absurd (omega arith)
 decode-ft8-is (suc (suc (suc n))) rule scale llr h = refl
 
-decode-staircase-is : (n rule : ℕ) (scale : Float) (llr : List Float) → n ≤ 2 → staircaseDecode (codeOf n) (ruleOf rule scale) llr ≡ decodeOf n rule scale llr
-unfolding decodeOf
+decode-staircase-is : (n rule : ℕ) (scale : Float) (llr : List Float) → n ≤ 2 → staircaseDecode (codeOf n) (ruleOf n rule scale) llr ≡ decodeOf n rule scale llr
+unfolding decodeBy
 decode-staircase-is zero rule scale llr h = refl
 decode-staircase-is (suc zero) rule scale llr h = refl
 decode-staircase-is (suc (suc zero)) rule scale llr h = refl
 decode-staircase-is (suc (suc (suc n))) rule scale llr h = absurd (omega arith)
 
-chose-frame : (d : Decode) (code rule : ℕ) (scale : Float) (limit : ℕ) (llr : List Float) (k found : ℕ) (bits : List ℕ)
-    → d ≡ decodeOf code rule scale llr → k ≡ sizeK code → Chose d limit k found bits
-    → (found ≡ frameCount code rule scale limit llr) × (bits ≡ frameBits code rule scale limit llr)
-unfolding frameCount frameBits
-chose-frame d code rule scale limit llr k found bits e s h = let g = rw (e, s) at h in (g .counted, g .front)
+module _ (code rule : ℕ) (scale : Float) (limit : ℕ) (llr : List Float) (k : ℕ) (found : Decoded) (bits : List ℕ) where
+  abbrev Framed : Type 0
+  Framed = Chose (decodeOf code rule scale llr) limit k found bits
 
-pub frame-ft8 : (code rule : ℕ) (scale : Float) (limit : ℕ) (llr : List Float) (k found : ℕ) (bits : List ℕ) → 2 < code → k ≡ sizeK code
-    → Chose (ft8Decode llr) limit k found bits → (found ≡ frameCount code rule scale limit llr) × (bits ≡ frameBits code rule scale limit llr)
-frame-ft8 code rule scale limit llr k found bits h s c = chose-frame (ft8Decode llr) code rule scale limit llr k found bits (decode-ft8-is code rule scale llr h) s c
+  pub frame-ft8 : (r : DecodeRule) → 2 < code → r ≡ ruleOf code rule scale → Chose (ft8Decode r llr) limit k found bits → Framed
+  frame-ft8 r h e c = rw (e, decode-ft8-is code rule scale llr h) at c
 
-pub frame-staircase : (code rule : ℕ) (scale : Float) (limit : ℕ) (llr : List Float) (k found : ℕ) (bits : List ℕ) (r : DecodeRule) → code ≤ 2 → k ≡ sizeK code → r ≡ ruleOf rule scale
-    → Chose (staircaseDecode (codeOf code) r llr) limit k found bits → (found ≡ frameCount code rule scale limit llr) × (bits ≡ frameBits code rule scale limit llr)
-frame-staircase code rule scale limit llr k found bits r h s e c =
-    chose-frame (staircaseDecode (codeOf code) (ruleOf rule scale) llr) code rule scale limit llr k found bits (decode-staircase-is code rule scale llr h) s (rw e at c)
+  pub frame-staircase : (r : DecodeRule) → code ≤ 2 → r ≡ ruleOf code rule scale → Chose (staircaseDecode (codeOf code) r llr) limit k found bits → Framed
+  frame-staircase r h e c = rw (e, decode-staircase-is code rule scale llr h) at c
 
 -- ---- the places of frame j
 
@@ -63,24 +59,36 @@ part-size l at k h =
     rw e (length-take-le k (drop at l) (simp length-drop (omega arith)))
 
 -- a part written behind what is there already
-pub written-more : (bits part goal rest : List ℕ) (at k : ℕ) → at + k ≤ length bits → length part ≡ k → take at bits ++ (part ++ rest) ≡ goal
+pub written-more : (bits part own goal rest : List ℕ) (at k : ℕ) → at + k ≤ length bits → length part ≡ k → part ≡ own → take at bits ++ (own ++ rest) ≡ goal
     → take (at + k) (take at bits ++ (part ++ drop (at + k - at) (drop at bits))) ++ rest ≡ goal
-written-more bits part goal rest at k h l e =
+written-more bits part own goal rest at k h l o e =
     let d = drop (at + k - at) (drop at bits) in
     let a : length (take at bits ++ part) ≡ at + k = simp length-append (omega (arith, length-take-le at bits (omega arith))) in
-    rw (← append-assoc (take at bits) part d, take-at (take at bits ++ part) d (at + k) a, append-assoc (take at bits) part rest) e
+    rw (← append-assoc (take at bits) part d, take-at (take at bits ++ part) d (at + k) a, append-assoc (take at bits) part rest, o) e
 
 pub written-length : (bits part : List ℕ) (at k : ℕ) → at + k ≤ length bits → length part ≡ k → length (take at bits ++ (part ++ drop (at + k - at) (drop at bits))) ≡ length bits
 written-length bits part at k h l = simp (length-append, length-drop, length-take) (omega arith)
 
-pub counts-length : (code rule : ℕ) (scale : Float) (limit : ℕ) (values : List Float) (pairs : List ℕ) → length (batchCounts code rule scale limit values pairs) ≡ length (pairsOf pairs)
-unfolding batchCounts
-counts-length code rule scale limit values pairs = length-map (framesOf values (pairsOf pairs)) (frameCount code rule scale limit) ∙ length-map (pairsOf pairs) (frameOf values)
+-- one number a frame, written as far as place j
+column-length : (f : List Float → ℕ) (values : List Float) (ps : List Pair) → length (map f (framesOf values ps)) ≡ length ps
+column-length f values ps = length-map (framesOf values ps) f ∙ length-map ps (frameOf values)
+
+pub record Column (f : List Float → ℕ) (values : List Float) (ps : List Pair) (j : ℕ) (out : List ℕ) : Type 0 where
+  pub size : length out ≡ length ps
+  pub front : take j out ≡ take j (map f (framesOf values ps))
+
+pub column-none : (f : List Float → ℕ) (values : List Float) (ps : List Pair) (out : List ℕ) → length out ≡ length ps → Column f values ps 0 out
+column-none f values ps out size = record { size = size; front = refl }
+
+pub column-done : (f : List Float → ℕ) (values : List Float) (ps : List Pair) (j : ℕ) (out : List ℕ) → length ps ≤ j → Column f values ps j out → out ≡ map f (framesOf values ps)
+column-done f values ps j out h c =
+    let all = column-length f values ps in
+    fill-done (map f (framesOf values ps)) 0 out j (omega (arith, all)) (c .size ∙ sym all) (c .front)
 
 -- ---- the frame of pair j
 
 module _ (values : List Float) (pairs : List ℕ) (n j : ℕ) (w : AllWithin n (length values) (pairsOf pairs)) (h : j < length (pairsOf pairs)) where
-  abbrev pub none-pair : Pair
+  abbrev none-pair : Pair
   none-pair = record { offset = 0; size = 0 }
 
   abbrev offset : ℕ
@@ -107,13 +115,19 @@ module _ (values : List Float) (pairs : List ℕ) (n j : ℕ) (w : AllWithin n (
       (drop-cons (framesOf values (pairsOf pairs)) j (frameOf values none-pair) (simp length-map h)
       ∙ ap (λ (f : List Float). f ∷ drop (suc j) (framesOf values (pairsOf pairs))) (List·getD-map (frameOf values) (pairsOf pairs) j none-pair))
 
-  -- what a function of frames gives at place j
-  abbrev pub beyond : (List Float → ℕ) → ℕ
-  beyond f = f (frameOf values none-pair)
-
-  pub count-next : (f : List Float → ℕ) → f (take (offset + n - offset) (drop offset values)) ≡ getD (map f (framesOf values (pairsOf pairs))) j (beyond f)
-  count-next f =
-      sym (List·getD-map f (framesOf values (pairsOf pairs)) j (frameOf values none-pair) ∙ ap f (List·getD-map (frameOf values) (pairsOf pairs) j none-pair ∙ frame-is))
+  -- one number more, of the frame at place j
+  pub column-more : (f : List Float → ℕ) (out : List ℕ) (v : ℕ) → v ≡ f (take (offset + n - offset) (drop offset values))
+      → Column f values (pairsOf pairs) j out → Column f values (pairsOf pairs) (j + 1) (set out j v)
+  column-more f out v e c =
+      let all = column-length f values (pairsOf pairs) in
+      let beyond = frameOf values none-pair in
+      let here : f (take (offset + n - offset) (drop offset values)) ≡ getD (map f (framesOf values (pairsOf pairs))) j (f beyond) =
+      sym (List·getD-map f (framesOf values (pairsOf pairs)) j beyond ∙ ap f (List·getD-map (frameOf values) (pairsOf pairs) j none-pair ∙ frame-is))
+      in
+      record {
+        size = length-set out j v ∙ c .size;
+        front = fill-more (map f (framesOf values (pairsOf pairs))) (f beyond) out j v (omega (arith, all)) (c .size ∙ sym all) (e ∙ here) (c .front);
+      }
 
   -- the bits of the frames from j on
   pub bits-next : (f : List Float → List ℕ) → joined (map f (drop j (framesOf values (pairsOf pairs))))
@@ -145,3 +159,7 @@ cleared-again v w h e =
     let z = replicate 3070 zero32 in
     let d : drop 3070 (z ++ drop 3070 v) ≡ drop 3070 v = drop-at z (drop 3070 v) 3070 (length-replicate 3070 zero32) in
     rw e (ap (λ (l : List Float). z ++ l) d)
+
+-- the lent memory, part by part
+pub lent-are : {b c r f b' c' r' f' : List ℕ} {w w' : List Float} → b ≡ b' → c ≡ c' → r ≡ r' → f ≡ f' → w ≡ w' → lent b c r f w ≡ lent b' c' r' f' w'
+lent-are b c r f w = cc

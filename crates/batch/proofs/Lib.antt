@@ -1,7 +1,7 @@
-pub mod Judged
 pub mod Sizes
 pub mod Pairs
 pub mod Frames
 pub mod Whole
-pub mod Demand3
+pub mod Promise
 pub mod Cases
+pub mod RoundTrip

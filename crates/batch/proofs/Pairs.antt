@@ -10,9 +10,9 @@ use lib.Dec.{eqb, ltb}
 use lib.ListN.{length, getD, drop, length-drop}
 use lib.Seq.{drop-cons}
 use Rattle.refusal.specs.Outcome.{Outcome, accepted, refused, Condition, judged, _when_}
-use Rattle.batch.specs.Pairs.{Pair, pairsOf}
-use Rattle.batch.specs.Calls.{pairRefusals, AllWithin, none, more}
-use Rattle.batch.proofs.Judged.{verdict, nothing, passed-by, judged-past, judged-front}
+use Rattle.refusal.proofs.Judged.{verdict, nothing, passed-by, judged-past, judged-front}
+use Rattle.batch.specs.Pairs.{Pair, pairsOf, AllWithin, none, more}
+use Rattle.batch.specs.Calls.{pairRefusals}
 
 -- ---- the pairs
 

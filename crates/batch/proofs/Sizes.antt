@@ -3,6 +3,7 @@ use mathlib.Core.Path.{_≡_, refl}
 use Prim.Native.Nat.{ℕ, zero, suc, _+_, _*_, _<_, _≤_}
 use native.Mathlib.Nat.{mul-le-mul}
 use native.Mathlib.Omega.{arith}
+use Rattle.construction.specs.Codes.{blockLength}
 use Rattle.staircase.specs.Codes.{codeOf}
 use Rattle.batch.specs.Codes.{sizeN, sizeK}
 
@@ -20,7 +21,7 @@ bits-ft8 (suc zero) h = absurd (omega arith)
 bits-ft8 (suc (suc zero)) h = absurd (omega arith)
 bits-ft8 (suc (suc (suc n))) h = refl
 
-pub values-staircase : (n : ℕ) → n ≤ 2 → codeOf n .k + codeOf n .m ≡ sizeN n
+pub values-staircase : (n : ℕ) → n ≤ 2 → blockLength (codeOf n) ≡ sizeN n
 unfolding sizeN
 values-staircase zero h = refl
 values-staircase (suc zero) h = refl

@@ -1,82 +1,90 @@
--- The batch's refusals as a whole: the numbers and lengths first, then the pairs. Assumes nothing.
-use mathlib.Core.Path.{_≡_, sym, _∙_}
+-- The batch's refusals as a whole: the numbers and lengths first, then the pairs; and what a refused and an accepted call leave. Assumes nothing.
+use mathlib.Core.Path.{_≡_, sym, subst, _∙_}
 use mathlib.Core.Bool.{not}
 use mathlib.Core.List.{List}
-use Prim.Native.Nat.{ℕ, _*_, _/_, _<_, _≤_}
+use Prim.Native.Nat.{ℕ, _*_, _<_, _≤_}
 use native.Mathlib.Omega.{arith}
 use borrow.Author.Tests.{eqb-true, ltb-false, not-false}
 use lib.Dec.{eqb, ltb}
 use lib.Ieee.{Float}
 use lib.ListN.{length}
-use Rattle.refusal.specs.Outcome.{Outcome, refused, Condition, kept}
+use Rattle.refusal.specs.Outcome.{Outcome, refused, Condition}
+use Rattle.refusal.proofs.Judged.{verdict, nothing, passed-by, judged-past, judged-front, kept-refused, kept-accepted, accepted-front, accepted-rest}
 use Rattle.batch.specs.Codes.{sizeN, sizeK}
-use Rattle.batch.specs.Pairs.{pairsOf}
-use Rattle.batch.specs.Calls.{ruleNotOfCode, headRefusals, pairRefusals, batchRefusals, AllWithin}
-use Rattle.batch.proofs.Judged.{verdict, nothing, passed-by, judged-past, judged-front, kept-refused, kept-accepted, accepted-rest}
-use Rattle.batch.proofs.Pairs.{pairs-length, all-within}
+use Rattle.batch.specs.Pairs.{Pair, AllWithin}
+use Rattle.batch.specs.Calls.{Lent, Batch, batch, ruleNotOfCode, headRefusals, pairRefusals, refusalsOf, refusals, written, Answered}
+use Rattle.batch.specs.declared.Room.{Room}
+use Rattle.batch.proofs.Pairs.{all-within}
 
 -- what accepted numbers and lengths are
-pub record HeadGood (code pairs bits counts work : ℕ) : Type 0 where
+pub record HeadGood (code pairs : ℕ) (room : Room) : Type 0 where
   pub known : code < 4
-  pub room : bits ≡ pairs * sizeK code
-  pub places : counts ≡ pairs
-  pub area : 3070 ≤ work
+  pub few : pairs ≤ 24
+  pub bits : room .bits ≡ pairs * sizeK code
+  pub counts : room .counts ≡ pairs
+  pub rounds : room .rounds ≡ pairs
+  pub firsts : room .firsts ≡ pairs
+  pub area : 3070 ≤ room .work
 
-pub head-good : (code rule pairs bits counts work : ℕ) → verdict (headRefusals code rule pairs bits counts work) ≡ nothing → HeadGood code pairs bits counts work
-head-good code rule pairs bits counts work e =
+head-good : (code rule pairs : ℕ) (room : Room) → verdict (headRefusals code rule pairs room) ≡ nothing → HeadGood code pairs room
+head-good code rule pairs room e =
     let a = passed-by (ltb 3 code) 1 _ e in
-    let b = passed-by (ltb 3 rule) 2 _ (a .others) in
+    let b = passed-by (ltb 4 rule) 2 _ (a .others) in
     let c = passed-by (ruleNotOfCode code rule) 3 _ (b .others) in
     let d = passed-by (ltb 24 pairs) 7 _ (c .others) in
-    let f = passed-by (not (eqb bits (pairs * sizeK code))) 8 _ (d .others) in
-    let g = passed-by (not (eqb counts pairs)) 8 _ (f .others) in
-    let h = passed-by (ltb work 3070) 9 _ (g .others) in
+    let f = passed-by (not (eqb (room .bits) (pairs * sizeK code))) 8 _ (d .others) in
+    let g = passed-by (not (eqb (room .counts) pairs)) 8 _ (f .others) in
+    let h = passed-by (not (eqb (room .rounds) pairs)) 8 _ (g .others) in
+    let i = passed-by (not (eqb (room .firsts) pairs)) 8 _ (h .others) in
+    let j = passed-by (ltb (room .work) 3070) 9 _ (i .others) in
     record {
       known = omega (arith, ltb-false 3 code (a .not-held));
-      room = eqb-true bits (pairs * sizeK code) (not-false (eqb bits (pairs * sizeK code)) (f .not-held));
-      places = eqb-true counts pairs (not-false (eqb counts pairs) (g .not-held));
-      area = ltb-false work 3070 (h .not-held);
+      few = ltb-false 24 pairs (d .not-held);
+      bits = eqb-true (room .bits) (pairs * sizeK code) (not-false (eqb (room .bits) (pairs * sizeK code)) (f .not-held));
+      counts = eqb-true (room .counts) pairs (not-false (eqb (room .counts) pairs) (g .not-held));
+      rounds = eqb-true (room .rounds) pairs (not-false (eqb (room .rounds) pairs) (h .not-held));
+      firsts = eqb-true (room .firsts) pairs (not-false (eqb (room .firsts) pairs) (i .not-held));
+      area = ltb-false (room .work) 3070 (j .not-held);
     }
 
-module _ (code rule : ℕ) (values : List Float) (pairs bits counts : List ℕ) (work : List Float) (z : Outcome Unit)
-    (h : verdict (headRefusals code rule (length pairs / 2) (length bits) (length counts) (length work)) ≡ z) where
-  head : verdict (headRefusals code rule (length (pairsOf pairs)) (length bits) (length counts) (length work)) ≡ z
-  head = rw (pairs-length pairs) h
+-- the two runs of tests, one after the other
+module _ (code rule values : ℕ) (ps : List Pair) (room : Room) where
+  abbrev head : List Condition
+  head = headRefusals code rule (length ps) room
 
-  pub whole-head : (k : ℕ) → z ≡ refused k → verdict (batchRefusals code rule values pairs bits counts work) ≡ refused k
-  unfolding batchRefusals
-  whole-head k e =
-      judged-front (headRefusals code rule (length (pairsOf pairs)) (length bits) (length counts) (length work))
-      (pairRefusals (sizeN code) (length values) 0 (pairsOf pairs)) tt k (head ∙ e)
+  abbrev rest : List Condition
+  rest = pairRefusals (sizeN code) values 0 ps
 
-  pub whole-pairs : (n : ℕ) → z ≡ nothing → n ≡ sizeN code → verdict (batchRefusals code rule values pairs bits counts work) ≡ verdict (pairRefusals n (length values) 0 (pairsOf pairs))
-  unfolding batchRefusals
-  whole-pairs n e s =
-      rw s
-      (judged-past (headRefusals code rule (length (pairsOf pairs)) (length bits) (length counts) (length work))
-      (pairRefusals (sizeN code) (length values) 0 (pairsOf pairs)) tt (head ∙ e))
+  pub head-refused : (k : ℕ) → verdict head ≡ refused k → verdict (refusalsOf code rule values ps room) ≡ refused k
+  unfolding refusalsOf
+  head-refused k e = judged-front head rest tt k e
 
-  pub whole-good : z ≡ nothing → HeadGood code (length (pairsOf pairs)) (length bits) (length counts) (length work)
-  whole-good e = head-good code rule (length (pairsOf pairs)) (length bits) (length counts) (length work) (head ∙ e)
+  pub head-passed : verdict head ≡ nothing → verdict (refusalsOf code rule values ps room) ≡ verdict rest
+  unfolding refusalsOf
+  head-passed e = judged-past head rest tt e
 
-pub pairs-within : (n m values : ℕ) (pairs : List ℕ) → n ≡ m → verdict (pairRefusals n values 0 (pairsOf pairs)) ≡ nothing → AllWithin m values (pairsOf pairs)
-pairs-within n m values pairs s e = all-within m values 0 (pairsOf pairs) (rw s at e)
+  -- where both were passed: the numbers and lengths are good, and the pairs lie within the values
+  pub all-good : verdict (refusalsOf code rule values ps room) ≡ nothing → HeadGood code (length ps) room
+  unfolding refusalsOf
+  all-good v = head-good code rule (length ps) room (accepted-front head rest v)
 
--- ---- the answer and the lent slices, all at once
+  pub all-inside : verdict (refusalsOf code rule values ps room) ≡ nothing → AllWithin (sizeN code) values ps
+  unfolding refusalsOf
+  all-inside v = all-within (sizeN code) values 0 ps (accepted-rest head rest v)
 
-module _ (cs : List Condition) (bits newBits counts newCounts : List ℕ) (work newWork : List Float) where
-  pub all-refused : (k : ℕ) → verdict cs ≡ refused k
-      → (refused k ≡ verdict cs) × ((bits ≡ kept cs bits newBits) × ((counts ≡ kept cs counts newCounts) × (work ≡ kept cs work newWork)))
-  all-refused k v = (sym v, (sym (kept-refused cs bits newBits k v), (sym (kept-refused cs counts newCounts k v), sym (kept-refused cs work newWork k v))))
+-- the answer and the lent memory, where the call is refused and where it is accepted
+module _ (b : Batch) where
+  pub turned-down : (k : ℕ) → verdict (refusals b) ≡ refused k → Answered b (refused k) (b .memory)
+  turned-down k v = record { says = sym v; leaves = sym (kept-refused (refusals b) (b .memory) (written b) k v) }
 
-  pub all-accepted : verdict cs ≡ nothing
-      → (nothing ≡ verdict cs) × ((newBits ≡ kept cs bits newBits) × ((newCounts ≡ kept cs counts newCounts) × (newWork ≡ kept cs work newWork)))
-  all-accepted v = (sym v, (sym (kept-accepted cs bits newBits v), (sym (kept-accepted cs counts newCounts v), sym (kept-accepted cs work newWork v))))
+  pub carried-out : verdict (refusals b) ≡ nothing → (left : Lent) → left ≡ written b → Answered b nothing left
+  carried-out v left e = record { says = sym v; leaves = e ∙ sym (kept-accepted (refusals b) (b .memory) (written b) v) }
 
--- an accepted batch's pairs lie within its values
-pub batch-within : (code rule : ℕ) (values : List Float) (pairs bits counts : List ℕ) (work : List Float)
-    → verdict (batchRefusals code rule values pairs bits counts work) ≡ nothing → AllWithin (sizeN code) (length values) (pairsOf pairs)
-unfolding batchRefusals
-batch-within code rule values pairs bits counts work e =
-    all-within (sizeN code) (length values) 0 (pairsOf pairs)
-    (accepted-rest (headRefusals code rule (length (pairsOf pairs)) (length bits) (length counts) (length work)) (pairRefusals (sizeN code) (length values) 0 (pairsOf pairs)) e)
+  pub accepted-left : (left : Lent) → Answered b nothing left → left ≡ written b
+  accepted-left left a = a .leaves ∙ kept-accepted (refusals b) (b .memory) (written b) (sym (a .says))
+
+-- a call at a rule that equals another is a call at that one
+pub at-rule : {code rule meant limit : ℕ} {scale : Float} {values : List Float} {pairs : List Pair} {memory left : Lent} {answer : Outcome Unit} → rule ≡ meant
+    → Answered (batch code rule limit scale values pairs memory) answer left → Answered (batch code meant limit scale values pairs memory) answer left
+at-rule {code} {limit = limit} {scale} {values} {pairs} {memory} {left} {answer} e a =
+    subst (λ (r : ℕ). Answered (batch code r limit scale values pairs memory) answer left) e a

@@ -12,8 +12,9 @@ use Rattle.softmath.specs.CheckNode.{checkStep}
 use Rattle.softmath.specs.declared.DecodeRule.the-variants.{MinSum}
 use Rattle.ldpc.specs.Code174.{checks}
 use Rattle.ldpc.specs.Encoding.{codewordOf}
-use Rattle.ldpc_codes.specs.Calls.{weightBy}
+use Rattle.ldpc_codes.specs.Calls.{syndromeBy}
 use Rattle.belief.specs.Rounds.{chosenCount, chosenBits}
+use Rattle.softmath.specs.declared.DecodeRule.the-variants.{Ft8}
 use Rattle.decoders.specs.Decodes.{ft8Decode}
 
 pub record Entry : Type 1 where
@@ -47,10 +48,10 @@ nans = replicate 174 nan
 -- "Staircase count, last bit alone: 1. Bit K alone: 2. Message bit 0 alone: 3, but 0 if its byte is 2."
 abbrev staircase : ℕ → ℕ → ℕ → List Entry → List Entry
 staircase code k m rest =
-    number (weightBy code (alone (k + m - 1) 1 0)) 1
-    ∷ number (weightBy code (alone k 1 (m - 1))) 2
-    ∷ number (weightBy code (alone 0 1 (k + m - 1))) 3
-    ∷ number (weightBy code (alone 0 2 (k + m - 1))) 0
+    number (syndromeBy code (alone (k + m - 1) 1 0) .count) 1
+    ∷ number (syndromeBy code (alone k 1 (m - 1)) .count) 2
+    ∷ number (syndromeBy code (alone 0 1 (k + m - 1)) .count) 3
+    ∷ number (syndromeBy code (alone 0 2 (k + m - 1)) .count) 0
     ∷ rest
 
 abbrev pub table : List Entry
@@ -65,10 +66,10 @@ table =
     ∷ number (countBytes checks (alone 0 1 173)) 3
     ∷ number (countBytes checks (alone 0 2 173)) 3
     ∷ number (countBytes checks (replicate 174 1)) 24
-    ∷ bitsAre (chosenBits (ft8Decode minusZeros) 0 174) (replicate 174 1)
-    ∷ number (chosenCount (ft8Decode minusZeros) 0) 24
-    ∷ bitsAre (chosenBits (ft8Decode nans) 0 174) (replicate 174 0)
-    ∷ number (chosenCount (ft8Decode nans) 0) 0
+    ∷ bitsAre (chosenBits (ft8Decode Ft8 minusZeros) 0 174) (replicate 174 1)
+    ∷ number (chosenCount (ft8Decode Ft8 minusZeros) 0) 24
+    ∷ bitsAre (chosenBits (ft8Decode Ft8 nans) 0 174) (replicate 174 0)
+    ∷ number (chosenCount (ft8Decode Ft8 nans) 0) 0
     ∷ floats (checkStep MinSum (two32 ∷ neg (ofBits binary32 0x40400000) ∷ two32 ∷ nan ∷ [])) (neg two32 ∷ two32 ∷ neg two32 ∷ neg two32 ∷ [])
     ∷ staircase 0 256 256 (staircase 1 384 192 (staircase 2 384 128 []))
 

@@ -2,11 +2,12 @@
 use mathlib.Core.List.{List}
 use Prim.Native.Nat.{ℕ, zero, suc, _+_}
 use lib.Ieee.{Float}
-use Rattle.construction.specs.Codes.{Code}
+use Rattle.construction.specs.Codes.{Code, blockLength}
 use Rattle.staircase.specs.Codes.{codeOf, columns}
 use Rattle.staircase.specs.Staircase.{encoded}
 use Rattle.ldpc.specs.Encoding.{encodeBits}
 use Rattle.tanner.specs.Checks.{Word}
+use Rattle.softmath.specs.declared.DecodeRule.{DecodeRule}
 use Rattle.belief.specs.Rounds.{Decode}
 use Rattle.decoders.specs.Decodes.{ruleOf, staircaseDecode, ft8Decode}
 
@@ -19,14 +20,18 @@ byCode (suc (suc (suc n))) f a = a
 
 -- N, a frame's values, and K, its message bits: "91 for code 3"
 unfoldable pub sizeN : ℕ → ℕ
-sizeN code = byCode code (λ c. c .k + c .m) 174
+sizeN code = byCode code (λ c. blockLength c) 174
 
 unfoldable pub sizeK : ℕ → ℕ
 sizeK code = byCode code (λ c. c .k) 91
 
--- the decode of a frame's values
-unfoldable pub decodeOf : ℕ → ℕ → Float → List Float → Decode
-decodeOf code rule scale llr = byCode code (λ c. staircaseDecode c (ruleOf rule scale) llr) (ft8Decode llr)
+-- the decode of a frame's values by a check step
+unfoldable pub decodeBy : ℕ → DecodeRule → List Float → Decode
+decodeBy code r llr = byCode code (λ c. staircaseDecode c r llr) (ft8Decode r llr)
+
+-- and by the reading of a rule and a scale
+abbrev pub decodeOf : ℕ → ℕ → Float → List Float → Decode
+decodeOf code rule scale llr = decodeBy code (ruleOf code rule scale) llr
 
 -- the word that encodes K message bits
 unfoldable pub encodingBy : ℕ → List ℕ → Word

@@ -3,3 +3,4 @@ pub mod Pairs
 pub mod Calls
 pub mod Promise
 pub mod Cases
+pub mod RoundTrip

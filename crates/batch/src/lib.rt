@@ -1,28 +1,37 @@
 // The batch: many frames of one code, decoded one after another in one work area.
+use belief::Decoded;
+use belief::WORK;
+use refusal::Refusal;
+use refusal::Status;
+use tanner::FirstCheck;
 ghost use mathlib.Core.Path.{_≡_};
-ghost use mathlib.Core.List.{List, [], _∷_, map};
+ghost use mathlib.Core.List.{[], _∷_};
 ghost use mathlib.Core.Bool.{not};
 ghost use Prim.Native.Nat.{_+_, _*_, _≤_, _<_};
 ghost use lib.Dec.{eqb, ltb};
 ghost use lib.ListN.{length};
-ghost use Rattle.refusal.specs.Outcome.{judged, kept, _when_};
-ghost use Rattle.tanner.specs.Flat.{joined};
+ghost use Rattle.refusal.specs.Outcome.{judged, _when_};
+ghost use Rattle.refusal.specs.Answers.{statusOf};
+ghost use Rattle.tanner.specs.Found.{firstOf};
+ghost use Rattle.belief.specs.Chosen.{Chose};
 ghost use Rattle.belief.specs.Graph.{cleared};
-ghost use Rattle.batch.specs.Codes.{sizeN, sizeK};
-ghost use Rattle.batch.specs.Pairs.{pairsOf, framesOf};
-ghost use Rattle.batch.specs.Calls.{batchedOf, faultOf, ruleNotOfCode, pairRefusals, headRefusals, batchRefusals, frameCount, frameBits, batchCounts, batchBits, AllWithin};
-use refusal::Refusal;
+ghost use Rattle.batch.specs.Codes.{sizeN, sizeK, decodeOf};
+ghost use Rattle.batch.specs.Pairs.{pairsOf, AllWithin};
+ghost use Rattle.batch.specs.Calls.{lent, batch, ruleNotOfCode, pairRefusals, headRefusals, refusalsOf, placeOf, written, asStored, Answered};
 
-// The answer of a batch.
-pub enum Batched {
-    Done,
-    Refused(Refusal),
-}
+// How many pairs a batch may have.
+pub const MOST_PAIRS: usize = 24;
 
-// What is found by a test of the arguments.
-pub enum Fault {
-    Nothing,
-    Found(Refusal),
+// What stands in the place of a first unsatisfied check where every check is satisfied.
+pub const NO_CHECK: u16 = 65535;
+
+// How many places are lent for each output, and for the work area.
+pub struct Room {
+    pub bits: usize,
+    pub counts: usize,
+    pub rounds: usize,
+    pub firsts: usize,
+    pub work: usize,
 }
 
 // N of a code.
@@ -30,7 +39,7 @@ pub fn frame_values(code: u32) -> usize
     ensures { λ r. ⌜ r ≡ sizeN code ⌝ }
 {
     if code > 2 {
-        return 174;
+        return ldpc::N;
     }
     decoders::values_of(code)
 }
@@ -40,19 +49,19 @@ pub fn message_bits(code: u32) -> usize
     ensures { λ r. ⌜ r ≡ sizeK code ⌝ }
 {
     if code > 2 {
-        return 91;
+        return ldpc::K;
     }
     decoders::bits_of(code)
 }
 
 // ---- refusals
 
-// Whether that rule is none of code 3's.
+// Whether that rule is none of the code's.
 fn rule_not_of_code(code: u32, rule: u32) -> bool
     ensures { λ r. ⌜ r ≡ ruleNotOfCode code rule ⌝ }
 {
     if code != 3 {
-        return false;
+        return rule == 4;
     }
     if rule == 1 {
         return true;
@@ -61,73 +70,89 @@ fn rule_not_of_code(code: u32, rule: u32) -> bool
 }
 
 // The numbers and the lengths, in the order of document 01's table.
-fn head_fault(code: u32, rule: u32, pairs: usize, bits: usize, counts: usize, work: usize) -> Fault
-    ensures { λ r. ⌜ faultOf r ≡ judged (headRefusals code rule pairs bits counts work) tt ⌝ }
+fn head_fault(code: u32, rule: u32, pairs: usize, room: Room) -> Status
+    ensures { λ r. ⌜ statusOf r ≡ judged (headRefusals code rule pairs room) tt ⌝ }
 {
     if code > 3 {
-        return Fault::Found(Refusal::UnknownCode);
+        return Status::Refused(Refusal::UnknownCode);
     }
-    if rule > 3 {
-        return Fault::Found(Refusal::UnknownRule);
+    if rule > 4 {
+        return Status::Refused(Refusal::UnknownRule);
     }
     if rule_not_of_code(code, rule) {
-        return Fault::Found(Refusal::RuleNotOfCode);
+        return Status::Refused(Refusal::RuleNotOfCode);
     }
-    if pairs > 24 {
-        return Fault::Found(Refusal::TooManyPairs);
+    if pairs > MOST_PAIRS {
+        return Status::Refused(Refusal::TooManyPairs);
     }
-    if bits != pairs * message_bits(code) {
-        return Fault::Found(Refusal::OutputLength);
+    if room.bits != pairs * message_bits(code) {
+        return Status::Refused(Refusal::OutputLength);
     }
-    if counts != pairs {
-        return Fault::Found(Refusal::OutputLength);
+    if room.counts != pairs {
+        return Status::Refused(Refusal::OutputLength);
     }
-    if work < 3070 {
-        return Fault::Found(Refusal::WorkTooShort);
+    if room.rounds != pairs {
+        return Status::Refused(Refusal::OutputLength);
     }
-    Fault::Nothing
+    if room.firsts != pairs {
+        return Status::Refused(Refusal::OutputLength);
+    }
+    if room.work < WORK {
+        return Status::Refused(Refusal::WorkTooShort);
+    }
+    Status::Done
 }
 
 // One pair, after one that ends at `end`.
-fn pair_fault(n: usize, values: usize, end: usize, offset: usize, size: usize) -> Fault
+fn pair_fault(n: usize, values: usize, end: usize, offset: usize, size: usize) -> Status
     requires { ⌜ offset < 4294967296 ⌝ }
     requires { ⌜ size < 4294967296 ⌝ }
-    ensures { λ r. ⌜ faultOf r ≡ judged ((10 when not (eqb size n)) ∷ (11 when ltb offset end) ∷ (12 when ltb values (offset + size)) ∷ []) tt ⌝ }
+    ensures { λ r. ⌜ statusOf r ≡ judged ((10 when not (eqb size n)) ∷ (11 when ltb offset end) ∷ (12 when ltb values (offset + size)) ∷ []) tt ⌝ }
 {
     if size != n {
-        return Fault::Found(Refusal::PairLength);
+        return Status::Refused(Refusal::PairLength);
     }
     if offset < end {
-        return Fault::Found(Refusal::PairOrder);
+        return Status::Refused(Refusal::PairOrder);
     }
     if values < offset + size {
-        return Fault::Found(Refusal::PairPastEnd);
+        return Status::Refused(Refusal::PairPastEnd);
     }
-    Fault::Nothing
+    Status::Done
 }
 
 // The pairs, one after another: the first faulty one decides.
-fn pairs_fault(n: usize, values: usize, pairs: &[u32]) -> Fault
-    ensures { λ r. ⌜ faultOf r ≡ judged (pairRefusals n values 0 (pairsOf (now (pairs .entry)))) tt ⌝ }
+fn pairs_fault(n: usize, values: usize, pairs: &[u32]) -> Status
+    ensures { λ r. ⌜ statusOf r ≡ judged (pairRefusals n values 0 (pairsOf (now (pairs .entry)))) tt ⌝ }
 {
     let mut end: usize = 0;
     let mut i = 0;
     while i + 1 < pairs.len() {
         let offset = pairs[i] as usize;
         let size = pairs[i + 1] as usize;
-        if let Fault::Found(r) = pair_fault(n, values, end, offset, size) {
-            return Fault::Found(r);
+        if let Status::Refused(r) = pair_fault(n, values, end, offset, size) {
+            return Status::Refused(r);
         }
         end = offset + size;
         i += 2;
     }
-    Fault::Nothing
+    Status::Done
+}
+
+// Whether a batch over so many values is turned down, and by which number: the numbers and the lengths, then the pairs.
+pub fn batch_fault(code: u32, rule: u32, values: usize, pairs: &[u32], room: Room) -> Status
+    ensures { λ r. ⌜ statusOf r ≡ judged (refusalsOf code rule values (pairsOf (now (pairs .entry))) room) tt ⌝ }
+{
+    if let Status::Refused(r) = head_fault(code, rule, pairs.len() / 2, room) {
+        return Status::Refused(r);
+    }
+    pairs_fault(frame_values(code), values, pairs)
 }
 
 // ---- decoding
 
-// One frame of any of the four codes.
-fn decode_frame(
+// One frame of any of the four codes: the chosen word's first bits, as many as `bits` has places.
+pub fn decode_frame(
     code: u32,
     rule: u32,
     scale: f32,
@@ -135,19 +160,29 @@ fn decode_frame(
     llr: &[f32],
     bits: &mut [u8],
     work: &mut [f32],
-) -> u16
+) -> Decoded
     requires { ⌜ code < 4 ⌝ }
     requires { ⌜ length (now llr) ≡ sizeN code ⌝ }
-    requires { ⌜ length (now bits) ≡ sizeK code ⌝ }
+    requires { ⌜ length (now bits) ≤ sizeN code ⌝ }
     requires { ⌜ 3070 ≤ length (now work) ⌝ }
-    ensures { λ r. ⌜ r ≡ frameCount code rule scale limit (now (llr .entry)) ⌝ }
-    ensures { λ _. ⌜ now (bits .exit) ≡ frameBits code rule scale limit (now (llr .entry)) ⌝ }
+    ensures { λ r. ⌜ Chose (decodeOf code rule scale (now (llr .entry))) limit (length (now (bits .entry))) r (now (bits .exit)) ⌝ }
     ensures { λ _. ⌜ now (work .exit) ≡ cleared (now (work .entry)) ⌝ }
 {
+    let step = decoders::rule_of(code, rule, scale);
     if code > 2 {
-        return decoders::codes::decode_ft8(limit, llr, bits, work);
+        return decoders::codes::decode_ft8(step, limit, llr, bits, work);
     }
-    decoders::decode_staircase(code, decoders::rule_of(rule, scale), limit, llr, bits, work)
+    decoders::decode_staircase(code, step, limit, llr, bits, work)
+}
+
+// A first unsatisfied check as one number.
+pub fn place_of(first: FirstCheck) -> u16
+    ensures { λ r. ⌜ r ≡ placeOf (firstOf first) ⌝ }
+{
+    match first {
+        FirstCheck::Check(c) => c,
+        FirstCheck::Satisfied => NO_CHECK,
+    }
 }
 
 // All frames, in place order.
@@ -160,27 +195,30 @@ fn decode_frames(
     pairs: &[u32],
     bits: &mut [u8],
     counts: &mut [u16],
+    rounds: &mut [u16],
+    firsts: &mut [u16],
     work: &mut [f32],
 )
     requires { ⌜ code < 4 ⌝ }
     requires { ⌜ AllWithin (sizeN code) (length (now values)) (pairsOf (now pairs)) ⌝ }
     requires { ⌜ length (now bits) ≡ length (pairsOf (now pairs)) * sizeK code ⌝ }
     requires { ⌜ length (now counts) ≡ length (pairsOf (now pairs)) ⌝ }
+    requires { ⌜ (length (now rounds) ≡ length (pairsOf (now pairs))) × (length (now firsts) ≡ length (pairsOf (now pairs))) ⌝ }
     requires { ⌜ 3070 ≤ length (now work) ⌝ }
-    ensures { λ _. ⌜ now (bits .exit) ≡ batchBits code rule scale limit (now (values .entry)) (now (pairs .entry)) ⌝ }
-    ensures { λ _. ⌜ now (counts .exit) ≡ batchCounts code rule scale limit (now (values .entry)) (now (pairs .entry)) ⌝ }
-    ensures { λ _. ⌜ now (work .exit) ≡ cleared (now (work .entry)) ⌝ }
+    ensures { λ _. ⌜ lent (now (bits .exit)) (now (counts .exit)) (now (rounds .exit)) (now (firsts .exit)) (now (work .exit))
+        ≡ written (batch code rule limit scale (now (values .entry)) (pairsOf (now (pairs .entry)))
+        (lent (now (bits .entry)) (now (counts .entry)) (now (rounds .entry)) (now (firsts .entry)) (now (work .entry)))) ⌝ }
 {
     let k = message_bits(code);
     let n = frame_values(code);
-    belief::clear(&mut work[..3070]);
+    belief::clear(&mut work[..WORK]);
     let mut j = 0;
     let mut at = 0;
     while j < counts.len() {
         let from = pairs[j * 2] as usize;
         let to = from + n;
         let next = at + k;
-        counts[j] = decode_frame(
+        let told = decode_frame(
             code,
             rule,
             scale,
@@ -189,6 +227,10 @@ fn decode_frames(
             &mut bits[at..next],
             work,
         );
+        let first = told.first;
+        counts[j] = told.count;
+        rounds[j] = told.rounds;
+        firsts[j] = place_of(first);
         at = next;
         j += 1;
     }
@@ -204,26 +246,85 @@ pub fn decode_batch(
     pairs: &[u32],
     bits: &mut [u8],
     counts: &mut [u16],
+    rounds: &mut [u16],
+    firsts: &mut [u16],
     work: &mut [f32],
-) -> Batched
-    ensures { λ r. ⌜ batchedOf r ≡ judged (batchRefusals code rule (now (values .entry)) (now (pairs .entry)) (now (bits .entry)) (now (counts .entry)) (now (work .entry))) tt ⌝ }
-    ensures { λ _. ⌜ now (bits .exit) ≡ kept (batchRefusals code rule (now (values .entry)) (now (pairs .entry)) (now (bits .entry)) (now (counts .entry)) (now (work .entry))) (now (bits .entry)) (batchBits code rule scale limit (now (values .entry)) (now (pairs .entry))) ⌝ }
-    ensures { λ _. ⌜ now (counts .exit) ≡ kept (batchRefusals code rule (now (values .entry)) (now (pairs .entry)) (now (bits .entry)) (now (counts .entry)) (now (work .entry))) (now (counts .entry)) (batchCounts code rule scale limit (now (values .entry)) (now (pairs .entry))) ⌝ }
-    ensures { λ _. ⌜ now (work .exit) ≡ kept (batchRefusals code rule (now (values .entry)) (now (pairs .entry)) (now (bits .entry)) (now (counts .entry)) (now (work .entry))) (now (work .entry)) (cleared (now (work .entry))) ⌝ }
+) -> Status
+    ensures { λ r. ⌜ Answered
+        (batch code rule limit scale (now (values .entry)) (pairsOf (now (pairs .entry)))
+        (lent (now (bits .entry)) (now (counts .entry)) (now (rounds .entry)) (now (firsts .entry)) (now (work .entry))))
+        (statusOf r)
+        (lent (now (bits .exit)) (now (counts .exit)) (now (rounds .exit)) (now (firsts .exit)) (now (work .exit))) ⌝ }
 {
-    if let Fault::Found(r) = head_fault(
+    let room = Room {
+        bits: bits.len(),
+        counts: counts.len(),
+        rounds: rounds.len(),
+        firsts: firsts.len(),
+        work: work.len(),
+    };
+    if let Status::Refused(r) = batch_fault(code, rule, values.len(), pairs, room) {
+        return Status::Refused(r);
+    }
+    decode_frames(
         code,
         rule,
-        pairs.len() / 2,
-        bits.len(),
-        counts.len(),
-        work.len(),
-    ) {
-        return Batched::Refused(r);
+        scale,
+        limit,
+        values,
+        pairs,
+        bits,
+        counts,
+        rounds,
+        firsts,
+        work,
+    );
+    Status::Done
+}
+
+// ---- stored batches
+
+// A stored batch's rule as it was meant.
+fn stored_rule(rule: u32) -> u32
+    ensures { λ r. ⌜ r ≡ asStored rule ⌝ }
+{
+    if rule == 3 {
+        return 0;
     }
-    if let Fault::Found(r) = pairs_fault(frame_values(code), values.len(), pairs) {
-        return Batched::Refused(r);
-    }
-    decode_frames(code, rule, scale, limit, values, pairs, bits, counts, work);
-    Batched::Done
+    rule
+}
+
+// The batch over flat slices, of a batch that was stored when rule 3 stood for rule 0.
+pub fn decode_stored_batch(
+    code: u32,
+    rule: u32,
+    limit: u16,
+    scale: f32,
+    values: &[f32],
+    pairs: &[u32],
+    bits: &mut [u8],
+    counts: &mut [u16],
+    rounds: &mut [u16],
+    firsts: &mut [u16],
+    work: &mut [f32],
+) -> Status
+    ensures { λ r. ⌜ Answered
+        (batch code (asStored rule) limit scale (now (values .entry)) (pairsOf (now (pairs .entry)))
+        (lent (now (bits .entry)) (now (counts .entry)) (now (rounds .entry)) (now (firsts .entry)) (now (work .entry))))
+        (statusOf r)
+        (lent (now (bits .exit)) (now (counts .exit)) (now (rounds .exit)) (now (firsts .exit)) (now (work .exit))) ⌝ }
+{
+    decode_batch(
+        code,
+        stored_rule(rule),
+        limit,
+        scale,
+        values,
+        pairs,
+        bits,
+        counts,
+        rounds,
+        firsts,
+        work,
+    )
 }

@@ -13,9 +13,10 @@ use Rattle.softmath.specs.Single.{zero32}
 use Rattle.softmath.specs.declared.DecodeRule.{DecodeRule}
 use Rattle.softmath.specs.declared.SumKind.{SumKind}
 use Rattle.softmath.proofs.Steps.{step-parts, middle-length, step-length}
-use Rattle.tanner.specs.Checks.{Checks, Word, count, countMasked}
+use Rattle.tanner.specs.Checks.{Checks, Word, count, countMasked, Syndrome, syndrome, syndromeMasked}
 use Rattle.tanner.specs.Flat.{Below, Within, FlatChecks, joined, offsets, rowsOf, bitEdges, places}
-use Rattle.tanner.proofs.Count.{low-count, bits-low}
+use Rattle.tanner.proofs.Count.{bits-low}
+use Rattle.tanner.proofs.First.{low-syndrome}
 use Rattle.tanner.proofs.Flat.{offsets-within, bit-edges-length, bit-edges-at, bit-edges-low}
 use Rattle.belief.specs.Rounds.{Decode, channel, byCheck, answers, decidedFrom, decided, sent, initialWord, firstMessages}
 use Rattle.belief.specs.Graph.{Graph, RoundDone, decodeAt}
@@ -155,8 +156,11 @@ unfolding firstMessages
 first-law rule kind cs cb bs be llr g = ap (map (λ (p : ℕ). getD llr p nan)) (g .positions)
 
 -- a word of bits is counted by its low bits
-pub counted-word : (cs : Checks) (w : Word) (found : ℕ) → Below 2 w → found ≡ countMasked 1 cs w → found ≡ count cs w
-counted-word cs w found b e = e ∙ low-count cs w ∙ ap (count cs) (bits-low w b)
+pub masked-word : (cs : Checks) (w : Word) → Below 2 w → syndromeMasked 1 cs w ≡ syndrome cs w
+masked-word cs w b = low-syndrome cs w ∙ ap (λ (v : Word). syndrome cs v) (bits-low w b)
+
+counted-word : (cs : Checks) (w : Word) (found : ℕ) → Below 2 w → found ≡ countMasked 1 cs w → found ≡ count cs w
+counted-word cs w found b e = e ∙ ap (λ (s : Syndrome). s .count) (masked-word cs w b)
 
 -- ---- what the passes of a round leave is a round
 

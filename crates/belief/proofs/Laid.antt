@@ -10,9 +10,9 @@ use Rattle.softmath.specs.declared.SumKind.{SumKind}
 use Rattle.tanner.specs.Checks.{Checks}
 use Rattle.tanner.specs.Flat.{Below, offsets, joined, rowsOf, bitEdges}
 use Rattle.tanner.proofs.Flat.{rows-laid, offsets-length}
-use Rattle.belief.specs.Rounds.{chosenCount, chosenBits}
 use Rattle.belief.specs.Graph.{Graph, decodeAt}
 use Rattle.belief.specs.Chosen.{Chose}
+use Rattle.belief.specs.declared.Decoded.{Decoded}
 
 module _ (rs : Checks) (n : ℕ) (cs cb bs be : List ℕ) (starts : cs ≡ offsets rs) (positions : cb ≡ joined rs) (edgeStarts : bs ≡ offsets (bitEdges n rs)) (edges : be ≡ joined (bitEdges n rs)) where
   rows-are : rowsOf cs cb ≡ rs
@@ -31,8 +31,7 @@ module _ (rs : Checks) (n : ℕ) (cs cb bs be : List ℕ) (starts : cs ≡ offse
         edges = edges ∙ ap (λ (r : Checks). joined (bitEdges n r)) (sym rows-are);
       })
 
-  pub chose-laid : (rule : DecodeRule) (kind : SumKind) (llr : List Float) (limit k found : ℕ) (bits : List ℕ)
-      → found ≡ chosenCount (decodeAt rule kind cs cb llr) limit → bits ≡ chosenBits (decodeAt rule kind cs cb llr) limit k
-      → Chose (record { checks = rs; rule = rule; kind = kind; llr = llr }) limit k found bits
-  chose-laid rule kind llr limit k found bits c b =
-      subst (λ (r : Checks). Chose (record { checks = r; rule = rule; kind = kind; llr = llr }) limit k found bits) rows-are (record { counted = c; front = b })
+  pub chose-laid : (rule : DecodeRule) (kind : SumKind) (llr : List Float) (limit k : ℕ) (r : Decoded) (bits : List ℕ)
+      → Chose (decodeAt rule kind cs cb llr) limit k r bits → Chose (record { checks = rs; rule = rule; kind = kind; llr = llr }) limit k r bits
+  chose-laid rule kind llr limit k r bits c =
+      subst (λ (ts : Checks). Chose (record { checks = ts; rule = rule; kind = kind; llr = llr }) limit k r bits) rows-are c

@@ -6,3 +6,4 @@ pub mod AtGraph
 pub mod Loop
 pub mod Whole
 pub mod Laid
+pub mod RoundsRun

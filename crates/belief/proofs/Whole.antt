@@ -1,5 +1,5 @@
 -- The decode put together: the initial word with its count and front, and the rounds where it does not satisfy every check. Assumes nothing.
-use mathlib.Core.Path.{_≡_, sym, ap, subst, _∙_}
+use mathlib.Core.Path.{_≡_, refl, sym, ap, ap₂, subst, _∙_}
 use mathlib.Core.List.{List, map}
 use Prim.Native.Nat.{ℕ}
 use lib.Ieee.{Float, nan}
@@ -7,11 +7,17 @@ use lib.ListN.{length, getD, take}
 use Rattle.softmath.specs.Functions.{decide}
 use Rattle.softmath.specs.declared.DecodeRule.{DecodeRule}
 use Rattle.softmath.specs.declared.SumKind.{SumKind}
-use Rattle.tanner.specs.Checks.{Word, count, countMasked}
+use Rattle.tanner.specs.Checks.{Word, count, Syndrome, syndromeMasked}
+use Rattle.tanner.specs.Found.{syndromeOf}
+use Rattle.tanner.specs.declared.Counted.{Counted}
+use Rattle.tanner.specs.declared.FirstCheck.the-variants.{Satisfied}
+use Rattle.tanner.proofs.First.{both, count-none}
 use Rattle.tanner.specs.Flat.{Below, rowsOf}
-use Rattle.belief.specs.Rounds.{Decode, initialWord, wordsFrom, chosenFrom, chosen}
-use Rattle.belief.specs.Graph.{Graph, Kept, decodeAt}
-use Rattle.belief.proofs.AtGraph.{initial-bits, counted-word, first-law}
+use Rattle.belief.specs.Rounds.{Decode, initialWord}
+use Rattle.belief.specs.Chosen.{Chose}
+use Rattle.belief.specs.declared.Decoded.{Decoded}
+use Rattle.belief.specs.Graph.{Graph, Kept, Ran, decodeAt}
+use Rattle.belief.proofs.AtGraph.{initial-bits, masked-word, first-law}
 use Rattle.belief.proofs.Loop.{none-run, some-run}
 
 module _ (rule : DecodeRule) (kind : SumKind) (cs cb : List ℕ) (llr : List Float) where
@@ -22,19 +28,27 @@ module _ (rule : DecodeRule) (kind : SumKind) (cs cb : List ℕ) (llr : List Flo
   unfolding initialWord
   initial-is hard e = e
 
-  pub initial-kept : (hard : Word) (bits : List ℕ) (k n found : ℕ) → hard ≡ map decide llr → found ≡ countMasked 1 (rowsOf cs cb) hard → bits ≡ take n hard → n ≡ k
+  pub initial-kept : (hard : Word) (bits : List ℕ) (k n : ℕ) (found : Counted)
+      → hard ≡ map decide llr → syndromeOf found ≡ syndromeMasked 1 (rowsOf cs cb) hard → bits ≡ take n hard → n ≡ k
       → Kept (rowsOf cs cb) k hard bits found
   initial-kept hard bits k n found h c b e = record {
     front = rw e at b;
-    counted = counted-word (rowsOf cs cb) hard found (subst (λ (w : Word). Below 2 w) (sym (initial-is hard h)) (initial-bits d)) c;
+    counted = c ∙ masked-word (rowsOf cs cb) hard (subst (λ (w : Word). Below 2 w) (sym (initial-is hard h)) (initial-bits d));
   }
 
   module _ (k limit : ℕ) (hard : Word) (e : hard ≡ initialWord d) where
-    pub run-none : (bits : List ℕ) (first : ℕ) → first ≡ 0 → Kept (rowsOf cs cb) k hard bits first → Kept (rowsOf cs cb) k (chosen d limit) bits first
-    run-none bits first z h = none-run d k limit bits first z (rw e at h)
+    pub run-none : (bits : List ℕ) (first : Counted) → first .count ≡ 0 → Kept (rowsOf cs cb) k hard bits first
+        → Chose d limit k (record { count = 0; rounds = 0; first = Satisfied }) bits
+    run-none bits first z h =
+        let none-left = count-none (rowsOf cs cb) hard (sym (ap (λ (s : Syndrome). s .count) (h .counted)) ∙ z) in
+        let kept : Kept (rowsOf cs cb) k hard bits (record { count = 0; first = Satisfied }) =
+        record { front = h .front; counted = ap₂ both (sym z ∙ ap (λ (s : Syndrome). s .count) (h .counted)) (sym none-left) }
+        in
+        none-run d k limit bits _ refl (rw e at kept) refl
 
-    pub run-some : (bs be : List ℕ) → Graph cs cb bs be (length llr) → (old bits : List ℕ) (first found : ℕ) (ms : List Float)
-        → (first ≡ 0 → ⊥) → Kept (rowsOf cs cb) k hard old first → ms ≡ map (λ p. getD llr p nan) cb
-        → Kept (rowsOf cs cb) k (chosenFrom (rowsOf cs cb) hard (wordsFrom d limit ms)) bits found → Kept (rowsOf cs cb) k (chosen d limit) bits found
-    run-some bs be g old bits first found ms n h m r =
-        some-run d k limit bits found first n (h .counted ∙ ap (count (rowsOf cs cb)) e) (rw (e, m, first-law rule kind cs cb bs be llr g) at r)
+    pub run-some : (bs be : List ℕ) → Graph cs cb bs be (length llr) → (old bits : List ℕ) (first : Counted) (r : Decoded) (ms : List Float)
+        → (first .count ≡ 0 → ⊥) → Kept (rowsOf cs cb) k hard old first → ms ≡ map (λ p. getD llr p nan) cb
+        → Ran d k limit hard ms bits r → Chose d limit k r bits
+    run-some bs be g old bits first r ms n h m ran =
+        some-run d k limit bits r (first .count) n (ap (λ (s : Syndrome). s .count) (h .counted) ∙ ap (count (rowsOf cs cb)) e)
+        (rw (e, m, first-law rule kind cs cb bs be llr g) at ran)

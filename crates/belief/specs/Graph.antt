@@ -7,9 +7,12 @@ use lib.ListN.{length, take, drop, replicate}
 use Rattle.softmath.specs.Single.{zero32}
 use Rattle.softmath.specs.declared.DecodeRule.{DecodeRule}
 use Rattle.softmath.specs.declared.SumKind.{SumKind}
-use Rattle.tanner.specs.Checks.{Checks, Word, count}
+use Rattle.tanner.specs.Checks.{Checks, Word, count, syndrome}
+use Rattle.tanner.specs.Found.{syndromeOf}
+use Rattle.tanner.specs.declared.Counted.{Counted}
 use Rattle.tanner.specs.Flat.{Below, offsets, joined, rowsOf, bitEdges}
-use Rattle.belief.specs.Rounds.{Decode, answers, decided, sent}
+use Rattle.belief.specs.Rounds.{Decode, answers, decided, sent, wordsFrom, chosenFrom}
+use Rattle.belief.specs.declared.Decoded.{Decoded}
 
 -- The arrays hold check lists over n positions, with at most 3,070 edges: the checks' positions with starts, and each position's edges with starts.
 pub record Graph (checkStart checkBits bitStart bitEdge : List ℕ) (n : ℕ) : Type 0 where
@@ -25,16 +28,25 @@ pub record Graph (checkStart checkBits bitStart bitEdge : List ℕ) (n : ℕ) : 
 abbrev pub decodeAt : DecodeRule → SumKind → List ℕ → List ℕ → List Float → Decode
 decodeAt rule kind checkStart checkBits llr = record { checks = rowsOf checkStart checkBits; rule = rule; kind = kind; llr = llr }
 
+-- the count and the first unsatisfied check of what a decode answers
+abbrev pub countedOf : Decoded → Counted
+countedOf r = record { count = r .count; first = r .first }
+
 -- after a round on the messages ms: the new messages, the word decided and its count
 pub record RoundDone (d : Decode) (ms next : List Float) (word : Word) (found : ℕ) : Type 0 where
   pub messages : next ≡ sent d (answers d ms)
   pub decision : word ≡ decided d (answers d ms)
   pub counted : found ≡ count (d .checks) word
 
--- the first k bits and the count of a word
-pub record Kept (cs : Checks) (k : ℕ) (word : Word) (bits : List ℕ) (kept : ℕ) : Type 0 where
+-- what is kept of a word: its first k bits, its count and its first unsatisfied check
+pub record Kept (cs : Checks) (k : ℕ) (word : Word) (bits : List ℕ) (kept : Counted) : Type 0 where
   pub front : bits ≡ take k word
-  pub counted : kept ≡ count cs word
+  pub counted : syndromeOf kept ≡ syndrome cs word
+
+-- after at most `limit` rounds from the messages ms, before which the word `start` was kept: what is kept then, and how many rounds were run
+pub record Ran (d : Decode) (k limit : ℕ) (start : Word) (ms : List Float) (bits : List ℕ) (r : Decoded) : Type 0 where
+  pub kept : Kept (d .checks) k (chosenFrom (d .checks) start (wordsFrom d limit ms)) bits (countedOf r)
+  pub rounds : r .rounds ≡ length (wordsFrom d limit ms)
 
 -- the work area after an accepted call: "its first 3,070 are +0.0 and the rest are unchanged"
 unfoldable pub cleared : List Float → List Float

@@ -2,3 +2,4 @@ pub mod Rounds
 pub mod Chosen
 pub mod Graph
 pub mod Passes
+pub mod RoundsRun

@@ -10,7 +10,7 @@ use Rattle.softmath.specs.Functions.{decide}
 use Rattle.softmath.specs.VariableNode.{decisionSum, newMessages, answersAt}
 use Rattle.softmath.specs.declared.DecodeRule.{DecodeRule}
 use Rattle.softmath.specs.declared.SumKind.{SumKind}
-use Rattle.tanner.specs.Checks.{Word, Checks, count}
+use Rattle.tanner.specs.Checks.{Word, Checks, count, First, firstUnsatisfied}
 use Rattle.tanner.specs.Flat.{joined, places}
 
 -- what a decode is of: a code's checks, the rule of its check step, its kind of new messages, and the frame's channel values
@@ -86,6 +86,10 @@ roundWords d limit =
     let more = wordsFrom d limit (firstMessages d) in
     unlessDone d (initialWord d) more
 
+-- "The rounds run are those from the first to the one that reaches count 0, or to the limit where none does" (change request N1: their number)
+unfoldable pub roundsRun : Decode → ℕ → ℕ
+roundsRun d limit = length (roundWords d limit)
+
 -- "A word replaces the kept one only if its count is smaller."
 abbrev pub better : Checks → Word → Word → Word
 better cs kept w = cond (ltb (count cs w) (count cs kept)) w kept
@@ -98,9 +102,12 @@ chosenFrom cs kept (w ∷ ws) = chosenFrom cs (better cs kept w) ws
 unfoldable pub chosen : Decode → ℕ → Word
 chosen d limit = chosenFrom (d .checks) (initialWord d) (roundWords d limit)
 
--- its count, and its first k bits
+-- its count, its first unsatisfied check (change request N8), and its first k bits
 unfoldable pub chosenCount : Decode → ℕ → ℕ
 chosenCount d limit = count (d .checks) (chosen d limit)
+
+unfoldable pub chosenFirst : Decode → ℕ → First
+chosenFirst d limit = firstUnsatisfied (d .checks) (chosen d limit)
 
 unfoldable pub chosenBits : Decode → ℕ → ℕ → List ℕ
 chosenBits d limit k = take k (chosen d limit)

@@ -9,15 +9,23 @@ ghost use Rattle.softmath.specs.Functions.{decide};
 ghost use Rattle.softmath.specs.CheckNode.{before, middle, after};
 ghost use Rattle.tanner.specs.Checks.{count};
 ghost use Rattle.tanner.specs.Flat.{Below, Within, rowsOf};
-ghost use Rattle.belief.specs.Graph.{Graph, RoundDone, Kept, decodeAt, cleared};
-ghost use Rattle.belief.specs.Rounds.{answers, decided, sent, initialWord, firstMessages, wordsFrom, chosenFrom, chosen, chosenCount, chosenBits};
+ghost use Rattle.belief.specs.Graph.{Graph, RoundDone, Kept, Ran, decodeAt, cleared};
+ghost use Rattle.belief.specs.Chosen.{Chose};
+ghost use Rattle.belief.specs.Rounds.{answers, decided, sent, initialWord, firstMessages};
 ghost use Rattle.belief.specs.Passes.{onFrom, turns, bitTurn, passOf, BitsWithin};
 use softmath::DecodeRule;
 use softmath::SumKind;
+use tanner::Counted;
+use tanner::FirstCheck;
 
-// What a decode tells beside the bits.
+// The work area's length (document 01: "The work area has at least 3,070 f32").
+pub const WORK: usize = 3070;
+
+// What a decode tells beside the bits: the chosen word's count, the rounds run, and the chosen word's first unsatisfied check.
 pub struct Decoded {
     pub count: u16,
+    pub rounds: u16,
+    pub first: FirstCheck,
 }
 
 // ---- the start
@@ -134,7 +142,7 @@ fn keep_word(hard: &[u8], bits: &mut [u8])
     }
 }
 
-// The rounds: left by `break` at the first word whose count is 0. `bits` keeps the front of the best word so far, and `first` is its count.
+// The rounds: left by `break` at the first word whose count is 0. `bits` keeps the front of the best word so far, and `first` is what was counted of it.
 fn rounds(
     rule: DecodeRule,
     kind: SumKind,
@@ -144,17 +152,18 @@ fn rounds(
     bit_start: &[u16],
     bit_edges: &[u16],
     llr: &[f32],
-    first: u16,
+    first: Counted,
     messages: &mut [f32],
     hard: &mut [u8],
     bits: &mut [u8],
-) -> u16
+) -> Decoded
     requires { ⌜ Graph (now «check_start») (now «check_bits») (now «bit_start») (now «bit_edges») (length (now llr)) ⌝ }
     requires { ⌜ length (now messages) ≡ length (now «check_bits») ⌝ }
     requires { ⌜ length (now hard) ≡ length (now llr) ⌝ }
     requires { ⌜ length (now bits) ≤ length (now llr) ⌝ }
     requires { ⌜ Kept (rowsOf (now «check_start») (now «check_bits»)) (length (now bits)) (now hard) (now bits) first ⌝ }
-    ensures { λ r. ⌜ Kept (rowsOf (now («check_start» .entry)) (now («check_bits» .entry))) (length (now (bits .entry))) (chosenFrom (rowsOf (now («check_start» .entry)) (now («check_bits» .entry))) (now (hard .entry)) (wordsFrom (decodeAt rule kind (now («check_start» .entry)) (now («check_bits» .entry)) (now (llr .entry))) limit (now (messages .entry)))) (now (bits .exit)) r ⌝ }
+    ensures { λ r. ⌜ Ran (decodeAt rule kind (now («check_start» .entry)) (now («check_bits» .entry)) (now (llr .entry)))
+        (length (now (bits .entry))) limit (now (hard .entry)) (now (messages .entry)) (now (bits .exit)) r ⌝ }
 {
     let mut kept = first;
     let mut done: u16 = 0;
@@ -171,15 +180,24 @@ fn rounds(
             hard,
         );
         done += 1;
-        if found < kept {
+        if found < kept.count {
             keep_word(hard, bits);
-            kept = found;
+            let lowest = tanner::first_counted(found, check_start, check_bits, hard, 1);
+            kept = Counted {
+                count: found,
+                first: lowest,
+            };
         }
         if found == 0 {
             break;
         }
     }
-    kept
+    let lowest = kept.first;
+    Decoded {
+        count: kept.count,
+        rounds: done,
+        first: lowest,
+    }
 }
 
 // The rounds, unless the initial word, which `hard` and `bits` hold, satisfies every check.
@@ -192,20 +210,25 @@ fn improve(
     bit_start: &[u16],
     bit_edges: &[u16],
     llr: &[f32],
-    first: u16,
+    first: Counted,
     messages: &mut [f32],
     hard: &mut [u8],
     bits: &mut [u8],
-) -> u16
+) -> Decoded
     requires { ⌜ Graph (now «check_start») (now «check_bits») (now «bit_start») (now «bit_edges») (length (now llr)) ⌝ }
     requires { ⌜ length (now messages) ≡ length (now «check_bits») ⌝ }
     requires { ⌜ now hard ≡ initialWord (decodeAt rule kind (now «check_start») (now «check_bits») (now llr)) ⌝ }
     requires { ⌜ length (now bits) ≤ length (now llr) ⌝ }
     requires { ⌜ Kept (rowsOf (now «check_start») (now «check_bits»)) (length (now bits)) (now hard) (now bits) first ⌝ }
-    ensures { λ r. ⌜ Kept (rowsOf (now («check_start» .entry)) (now («check_bits» .entry))) (length (now (bits .entry))) (chosen (decodeAt rule kind (now («check_start» .entry)) (now («check_bits» .entry)) (now (llr .entry))) limit) (now (bits .exit)) r ⌝ }
+    ensures { λ r. ⌜ Chose (decodeAt rule kind (now («check_start» .entry)) (now («check_bits» .entry)) (now (llr .entry)))
+        limit (length (now (bits .entry))) r (now (bits .exit)) ⌝ }
 {
-    if first == 0 {
-        return first;
+    if first.count == 0 {
+        return Decoded {
+            count: 0,
+            rounds: 0,
+            first: FirstCheck::Satisfied,
+        };
     }
     first_messages(check_bits, llr, messages);
     rounds(
@@ -224,7 +247,7 @@ fn improve(
     )
 }
 
-// The chosen word's front and its count, from the channel values.
+// The chosen word's front and what is told of it, from the channel values.
 fn choose(
     rule: DecodeRule,
     kind: SumKind,
@@ -237,15 +260,16 @@ fn choose(
     messages: &mut [f32],
     hard: &mut [u8],
     bits: &mut [u8],
-) -> u16
+) -> Decoded
     requires { ⌜ Graph (now «check_start») (now «check_bits») (now «bit_start») (now «bit_edges») (length (now llr)) ⌝ }
     requires { ⌜ length (now messages) ≡ length (now «check_bits») ⌝ }
     requires { ⌜ length (now hard) ≡ length (now llr) ⌝ }
     requires { ⌜ length (now bits) ≤ length (now llr) ⌝ }
-    ensures { λ r. ⌜ Kept (rowsOf (now («check_start» .entry)) (now («check_bits» .entry))) (length (now (bits .entry))) (chosen (decodeAt rule kind (now («check_start» .entry)) (now («check_bits» .entry)) (now (llr .entry))) limit) (now (bits .exit)) r ⌝ }
+    ensures { λ r. ⌜ Chose (decodeAt rule kind (now («check_start» .entry)) (now («check_bits» .entry)) (now (llr .entry)))
+        limit (length (now (bits .entry))) r (now (bits .exit)) ⌝ }
 {
     initial_word(llr, hard);
-    let first = tanner::count_masked(check_start, check_bits, hard, 1);
+    let first = tanner::counted_masked(check_start, check_bits, hard, 1);
     keep_word(hard, bits);
     improve(
         rule,
@@ -292,14 +316,14 @@ pub fn decode(
     requires { ⌜ length (now llr) ≤ 576 ⌝ }
     requires { ⌜ length (now bits) ≤ length (now llr) ⌝ }
     requires { ⌜ 3070 ≤ length (now work) ⌝ }
-    ensures { λ r. ⌜ r .count ≡ chosenCount (decodeAt rule kind (now («check_start» .entry)) (now («check_bits» .entry)) (now (llr .entry))) limit ⌝ }
-    ensures { λ _. ⌜ now (bits .exit) ≡ chosenBits (decodeAt rule kind (now («check_start» .entry)) (now («check_bits» .entry)) (now (llr .entry))) limit (length (now (bits .entry))) ⌝ }
+    ensures { λ r. ⌜ Chose (decodeAt rule kind (now («check_start» .entry)) (now («check_bits» .entry)) (now (llr .entry)))
+        limit (length (now (bits .entry))) r (now (bits .exit)) ⌝ }
     ensures { λ _. ⌜ now (work .exit) ≡ cleared (now (work .entry)) ⌝ }
 {
     let mut hard = [0u8; 576];
     let n = llr.len();
     let edges = check_bits.len();
-    let count = choose(
+    let decoded = choose(
         rule,
         kind,
         limit,
@@ -312,6 +336,6 @@ pub fn decode(
         &mut hard[..n],
         bits,
     );
-    clear(&mut work[..3070]);
-    Decoded { count: count }
+    clear(&mut work[..WORK]);
+    decoded
 }

@@ -15,13 +15,15 @@ use lib.Ieee.Compare.{differs-from-itself, nan-differs}
 use lib.ListN.{length, getD, take, drop, replicate, length-append, length-map, length-replicate, getD-replicate, List·getD-append, List·getD-eq-default}
 use lib.Pow.{pow-mono, pow-add}
 use lib.Seq.{take-suc, take-all, drop-length, drop-cons, getD-append-add}
-use Rattle.crc.specs.Bits.{number, numberAfter}
+use Rattle.bits.specs.Bits.{number, numberAfter}
 use Rattle.crc.specs.Register.{turn}
 use Rattle.crc.specs.Qex.{bringDown, divide, qex}
-use Rattle.crc.proofs.Digits.{number-append}
+use Rattle.bits.proofs.Digits.{number-append}
 use Rattle.crc.proofs.Turn.{lowTurn}
-use Rattle.crc.proofs.Division.{AreBits, none, more, areBits-append, areBits-take, zeros-are, qex-lt, qex-more}
+use Rattle.bits.proofs.AreBits.{AreBits, none, more, areBits-append, areBits-take, zeros-are}
+use Rattle.crc.proofs.Division.{qex-lt, qex-more}
 use Rattle.tanner.specs.Checks.{lowBits}
+use Rattle.tanner.proofs.Count.{low-length}
 use Rattle.clean.specs.Clean.{anyNan}
 
 -- ---- values
@@ -55,11 +57,7 @@ none-left vs i h k e =
     sym (ap anyNan gone) ∙ e
 
 -- ---- the low bits
-pub low-length : (bs : List ℕ) → length (lowBits bs) ≡ length bs
-unfolding lowBits
-low-length bs = length-map {B = ℕ} bs (λ b. b % 2)
-
-low-bits : (bs : List ℕ) → AreBits (lowBits bs)
+pub low-bits : (bs : List ℕ) → AreBits (lowBits bs)
 unfolding lowBits
 low-bits [] = none
 low-bits (b ∷ bs) = more (mod-lt b (omega arith)) (low-bits bs)

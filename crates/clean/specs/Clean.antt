@@ -6,7 +6,7 @@ use Prim.Native.Nat.{ℕ}
 use lib.Dec.{eqb}
 use lib.Ieee.{Float, isNan}
 use lib.ListN.{take, drop, replicate}
-use Rattle.crc.specs.Bits.{number}
+use Rattle.bits.specs.Bits.{number, packed}
 use Rattle.crc.specs.Qex.{qex}
 use Rattle.tanner.specs.Checks.{lowBits}
 
@@ -21,6 +21,10 @@ payloadChecksum bits = qex (lowBits (take 77 bits) ++ replicate 5 0)
 -- the checksum that the bits carry, at bits 77 to 90
 abbrev pub carriedChecksum : List ℕ → ℕ
 carriedChecksum bits = number (lowBits (take 14 (drop 77 bits)))
+
+-- the payload whose 77 bits the frame's are, in the 10 bytes that `ft8_add_crc` takes
+abbrev pub payloadOf : List ℕ → List ℕ
+payloadOf bits = packed 10 (lowBits (take 77 bits) ++ replicate 3 0)
 
 unfoldable pub checksumRight : List ℕ → Bool
 checksumRight bits = eqb (payloadChecksum bits) (carriedChecksum bits)

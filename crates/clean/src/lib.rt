@@ -6,7 +6,7 @@ ghost use Prim.Native.Nat.{_+_, _*_, _%_, _≤_, _<_};
 ghost use lib.Bits.{bitXor};
 ghost use lib.Ieee.{isNan};
 ghost use lib.ListN.{length, getD, replicate};
-ghost use Rattle.crc.specs.Bits.{number};
+ghost use Rattle.bits.specs.Bits.{number};
 ghost use Rattle.crc.specs.Register.{turn};
 ghost use Rattle.crc.specs.Qex.{qex};
 ghost use Rattle.tanner.specs.Checks.{lowBits};
@@ -33,9 +33,7 @@ fn turn_bit(r: u16, b: u16) -> u16
     requires { ⌜ b < 2 ⌝ }
     ensures { λ q. ⌜ q ≡ turn (bitXor r (b * 8192)) % 16384 ⌝ }
 {
-    let x = r ^ (b * 8192);
-    let top = (x >> 13) % 2;
-    ((x << 1) ^ (top * 0x2757)) % 16384
+    crc::step(r ^ (b * 8192)) % 16384
 }
 
 // The low bit of byte i, or 0 past the last.

@@ -3,16 +3,19 @@
 use mathlib.Core.Path.{_≡_, refl, sym, ap, _∙_}
 use mathlib.Core.Bool.{Bool, true, false, cond, not, _&&_, _||_}
 use mathlib.Core.List.{List, [], _∷_}
-use Prim.Native.Nat.{ℕ, zero, suc, _+_, _-_, _%_, _≤_, _<_}
+use Prim.Native.Nat.{ℕ, zero, suc, _+_, _%_, _≤_, _<_}
 use native.Mathlib.Nat.{mod-lt, zero-add, add-zero, add-suc, suc-add}
 use native.Mathlib.Omega.{arith}
 use lib.Dec.{leb, ltb, eqb, eqb·suc-zero}
 use lib.ListN.{length, getD, set, take, drop, length-set, length-drop, length-replicate, getD-replicate}
 use lib.Seq.{getD-take, getD-drop, length-take-le}
-use Rattle.generator.specs.Draw.{draw}
-use Rattle.construction.specs.Columns.{row, Made, holds, together, skipped, times, load, leastOf, search, settled, upFrom, pick, onePick, picks, insert, sorted, finished, nextColumn, made}
-use Rattle.construction.specs.Quick.{marked, markedIf, markedBy, marksOf, Best, best, none, lessOf, met, scan, foundIn, quickSearch, quickPick, loaded, Kept, quickOnePick, quickPicks, quickFinished, quickColumn, quickColumns, quick}
+use Rattle.xorshift.specs.Draw.{draw}
+use Rattle.construction.specs.Columns.{row, Made, holds, together, skipped, times, load, leastOf, search, settled, upFrom, pick, onePick, picks}
+use Rattle.construction.specs.Columns.{insert, sorted, finished, nextColumn, made}
+use Rattle.construction.specs.Quick.{marked, markedIf, markedBy, marksOf, Best, best, none, lessOf, met, scan, foundIn, quickSearch}
+use Rattle.construction.specs.Quick.{quickPick, loaded, Kept, quickOnePick, quickPicks, quickFinished, quickColumn, quickColumns, quick}
 use Rattle.construction.specs.Tables.{metRow, metRows, loadAt, flagAt, Loads}
+use Rattle.construction.proofs.Rows.{either}
 use Rattle.construction.proofs.Searches.{met-round}
 use Rattle.construction.proofs.Marks.{flag-set-at, load-set-at, or-swap}
 use Rattle.construction.proofs.Picks.{search-same}
@@ -75,14 +78,10 @@ unfolding loaded times
 loaded-times [] ls r h = omega arith
 loaded-times (x ∷ xs) ls r h = loaded-times xs (set ls x (getD ls x 0 + 1)) r (simp length-set h) ∙ rw (load-set-at ls x r h) (omega arith)
 
-times-if : (b : Bool) (xs ys : List ℕ) (r n : ℕ) → times xs r ≡ n → times ys r ≡ n → times (cond b xs ys) r ≡ n
-times-if true xs ys r n p q = p
-times-if false xs ys r n p q = q
-
 times-insert : (x : ℕ) (l : List ℕ) (r : ℕ) → times (insert x l) r ≡ cond (eqb x r) 1 0 + times l r
 unfolding insert times
 times-insert x [] r = refl
-times-insert x (y ∷ ys) r = times-if (leb x y) _ _ r _ refl (rw (times-insert x ys r) (omega arith))
+times-insert x (y ∷ ys) r = either (λ (l : List ℕ). times l r ≡ cond (eqb x r) 1 0 + times (y ∷ ys) r) (leb x y) refl (rw (times-insert x ys r) (omega arith))
 
 pub times-sorted : (l : List ℕ) (r : ℕ) → times (sorted l) r ≡ times l r
 unfolding sorted times
@@ -129,28 +128,38 @@ module _ (L : ℕ → ℕ) (S : ℕ → Bool) where
         let e : l ≡ L r = rw add-zero at (loads 0 (omega arith)) in
         let s : not (eqb f 0) ≡ S r = rw add-zero at (flags 0 (omega arith)) in
         let one = met-is f l r b e s right in
-        let rest = scan-is ls fs (suc r) (met f l r b) (omega arith) (λ i h. rw (suc-add, ← add-suc) (loads (suc i) (omega arith))) (λ i h. rw (suc-add, ← add-suc) (flags (suc i) (omega arith))) (met-right f l r b e right) in
+        let rest =
+        scan-is ls fs (suc r) (met f l r b) (omega arith) (λ i h. rw (suc-add, ← add-suc) (loads (suc i) (omega arith)))
+        (λ i h. rw (suc-add, ← add-suc) (flags (suc i) (omega arith))) (met-right f l r b e right) in
         (rw one at (rest .0), rest .1)
 
-quick-search : (ls fs : List ℕ) (start : ℕ) → length fs ≡ length ls → start ≤ length ls → quickSearch ls fs start ≡ search (length ls) (loadAt ls) (flagAt fs) start
+quick-search : (ls fs : List ℕ) (start : ℕ) → length fs ≡ length ls → start ≤ length ls
+    → quickSearch ls fs start ≡ search (length ls) (loadAt ls) (flagAt fs) start
 unfolding quickSearch loadAt flagAt Right foundIn
 quick-search ls fs start size h =
     let L = loadAt ls in
     let S = flagAt fs in
-    let late = scan-is L S (drop start ls) (drop start fs) start none (simp length-drop (omega arith)) (λ i k. getD-drop start ls i 0) (λ i k. ap (λ (x : ℕ). not (eqb x 0)) (getD-drop start fs i 0)) tt in
+    let late =
+    scan-is L S (drop start ls) (drop start fs) start none (simp length-drop (omega arith)) (λ i k. getD-drop start ls i 0)
+    (λ i k. ap (λ (x : ℕ). not (eqb x 0)) (getD-drop start fs i 0)) tt in
     let size-l : length (take start ls) ≡ start = length-take-le start ls h in
     let size-f : length (take start fs) ≡ start = length-take-le start fs (omega arith) in
-    let early = scan-is L S (take start ls) (take start fs) 0 (scan (drop start ls) (drop start fs) start none) (omega arith)
-    (λ i k. rw zero-add (getD-take start ls i 0 (omega arith))) (λ i k. rw zero-add (ap (λ (x : ℕ). not (eqb x 0)) (getD-take start fs i 0 (omega arith)))) (late .1) in
+    let early =
+    scan-is L S (take start ls) (take start fs) 0 (scan (drop start ls) (drop start fs) start none) (omega arith)
+    (λ i k. rw zero-add (getD-take start ls i 0 (omega arith)))
+    (λ i k. rw zero-add (ap (λ (x : ℕ). not (eqb x 0)) (getD-take start fs i 0 (omega arith)))) (late .1) in
     early .0 ∙ rw (size-l, late .0, length-drop start ls) (met-round L S (length ls) start)
 
 -- ---- the picks and the columns
-quick-pick : (m : ℕ) (ls : List ℕ) (cs : List (List ℕ)) (picked : List ℕ) (s : ℕ) → 0 < m → length ls ≡ m → Loads cs ls → quickPick m ls cs picked s ≡ pick m cs picked s
+quick-pick : (m : ℕ) (ls : List ℕ) (cs : List (List ℕ)) (picked : List ℕ) (s : ℕ) → 0 < m → length ls ≡ m → Loads cs ls
+    → quickPick m ls cs picked s ≡ pick m cs picked s
 unfolding quickPick pick Loads loadAt
 quick-pick m ls cs picked s some size right =
     let low = mod-lt s some in
     let found = quick-search ls (marksOf m cs picked) (s % m) (marks-length m cs picked ∙ sym size) (omega arith) in
-    let same = search-same m (loadAt ls) (load cs) (flagAt (marksOf m cs picked)) (skipped cs picked) (λ r h. right r (omega arith)) (λ r h. marks-flags m cs picked r h) (s % m) (omega arith) in
+    let same =
+    search-same m (loadAt ls) (load cs) (flagAt (marksOf m cs picked)) (skipped cs picked) (λ r h. right r (omega arith))
+    (λ r h. marks-flags m cs picked r h) (s % m) (omega arith) in
     ap (settled m picked (s % m)) (found ∙ rw size same)
 
 quick-picks : (t m : ℕ) (ls : List ℕ) (cs : List (List ℕ)) (s : ℕ) → 0 < m → length ls ≡ m → Loads cs ls → quickPicks t m ls cs s ≡ picks t m cs s
@@ -166,12 +175,17 @@ pub record Agrees (m : ℕ) (g : Kept) (h : Made) : Type 0 where
 
 quick-made : (k m seed : ℕ) → 0 < m → Agrees m (quickColumns k m seed) (made k m seed)
 unfolding quickColumns made quickColumn nextColumn quickFinished finished Loads load
-quick-made zero m seed some = record { same = refl; size = length-replicate m 0; right = λ r h. getD-replicate {A = ℕ} m r 0 0 (omega (arith, length-replicate {A = ℕ} m 0)) }
+quick-made zero m seed some = record {
+  same = refl;
+  size = length-replicate m 0;
+  right = λ r h. getD-replicate {A = ℕ} m r 0 0 (omega (arith, length-replicate {A = ℕ} m 0));
+}
 quick-made (suc k) m seed some =
     let ih = quick-made k m seed some in
     let g = quickColumns k m seed in
     let h = made k m seed in
-    let p : quickPicks 3 m (g .loads) (g .so .columns) (g .so .state) ≡ picks 3 m (h .columns) (h .state) = rw (ih .same) (quick-picks 3 m (g .loads) (h .columns) (h .state) some (ih .size) (ih .right)) in
+    let p : quickPicks 3 m (g .loads) (g .so .columns) (g .so .state) ≡ picks 3 m (h .columns) (h .state) =
+    rw (ih .same) (quick-picks 3 m (g .loads) (h .columns) (h .state) some (ih .size) (ih .right)) in
     record {
       same = rw (p, ih .same);
       size = loaded-length _ (g .loads) ∙ ih .size;

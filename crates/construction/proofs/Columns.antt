@@ -2,7 +2,7 @@
 use mathlib.Core.Path.{_≡_, refl}
 use mathlib.Core.Bool.{Bool, true, false, cond, _||_, or-assoc}
 use mathlib.Core.List.{List, [], _∷_, _++_}
-use Prim.Native.Nat.{ℕ, zero, suc, _+_, _-_, _≤_, _<_}
+use Prim.Native.Nat.{ℕ, _+_, _-_, _≤_, _<_}
 use native.Mathlib.Numerals.{add-one}
 use native.Mathlib.Omega.{arith}
 use borrow.Author.Tests.{eq-eqb, ne-eqb}
@@ -72,21 +72,6 @@ three-stored (a ∷ []) x y z e s = absurd (omega arith)
 three-stored (a ∷ (b ∷ [])) x y z e s = absurd (omega arith)
 three-stored (a ∷ (b ∷ (c ∷ []))) x y z e s = s
 three-stored (a ∷ (b ∷ (c ∷ (d ∷ l)))) x y z e s = absurd (omega arith)
-
-pub either-below : (b : Bool) (x y m : ℕ) → x < m → y < m → cond b x y < m
-either-below true x y m p q = p
-either-below false x y m p q = q
-
--- ---- the relaxed pick stays among the rows
-outside-up-below : (c : List ℕ) (m n a other : ℕ) → a + n ≤ m → other < m → firstOutside c (upFrom a n) other < m
-unfolding firstOutside upFrom
-outside-up-below c m zero a other h low = low
-outside-up-below c m (suc n) a other h low = either-below (holds c a) _ a m (outside-up-below c m n (suc a) other (omega arith) low) (omega arith)
-
-pub outside-below : (c : List ℕ) (m start : ℕ) → start < m → firstOutside c (onceRound m start) 0 < m
-outside-below c m start h =
-    rw (← outside-append c (upFrom start (m - start)) (upFrom 0 start) 0)
-    (outside-up-below c m (m - start) start _ (omega arith) (outside-up-below c m start 0 0 (omega arith) (omega arith)))
 
 -- ---- what a search found, settled
 pub settled-row : (m : ℕ) (picked : List ℕ) (start r : ℕ) {f : Found} → f ≡ row r → record { row = r; relaxed = 0 } ≡ settled m picked start f

@@ -3,74 +3,34 @@
 use mathlib.Core.Path.{_≡_, refl, sym, _∙_}
 use mathlib.Core.Bool.{Bool, true, false, cond, _||_, or-true, true≢false}
 use mathlib.Core.List.{List, [], _∷_, _++_}
+use mathlib.Mathlib.Data.Bool.Basic.{or-eq-false-eq-eq-false-and-eq-false as or-is-false}
 use Prim.Native.Nat.{ℕ, zero, suc, _+_, _-_, _%_, _≤_, _<_}
 use native.Mathlib.Nat.{mod-lt}
 use native.Mathlib.Decide.{decLt, ℕ-discrete}
 use native.Mathlib.Omega.{arith}
 use borrow.Author.Tests.{ne-eqb, eqb-true, eqb-false}
-use lib.Dec.{ltb, eqb}
+use lib.Dec.{eqb}
 use lib.Arith.{lt-of-le-ne}
 use lib.ListN.{length, length-append}
-use Rattle.construction.specs.Columns.{Found, row, nothing, upFrom, onceRound, holds, together, skipped, load, without, leastOf, firstLeast, search, firstOutside, settled, pick, onePick, picks, times}
+use Rattle.construction.specs.Columns.{upFrom, onceRound, holds, together, skipped, load, search, firstOutside, pick, onePick, picks, times}
 use Rattle.construction.proofs.Columns.{holds-append}
+use Rattle.construction.proofs.Rows.{settled-has, search-free}
 
-or-left : (a b : Bool) → (a || b) ≡ false → a ≡ false
-or-left true b e = e
-or-left false b e = refl
-
-or-right : (a b : Bool) → (a || b) ≡ false → b ≡ false
-or-right true b e = absurd (true≢false e)
-or-right false b e = e
-
-neither : (a b : Bool) → a ≡ false → b ≡ false → (a || b) ≡ false
-neither a b p q = rw (p, q)
-
--- ---- what the search finds is not skipped
+-- a row that is not skipped is none of those picked
 skipped-out : (cs : List (List ℕ)) (picked : List ℕ) (r : ℕ) → skipped cs picked r ≡ false → holds picked r ≡ false
 unfolding skipped holds
 skipped-out cs [] r e = refl
 skipped-out cs (q ∷ qs) r e =
-    neither (eqb q r) (holds qs r) (or-left (eqb q r) (together cs q r) (or-left _ _ e)) (skipped-out cs qs r (or-right (eqb q r || together cs q r) (skipped cs qs r) e))
-
-module _ (S : ℕ → Bool) where
-  Free : List ℕ → Type 0
-  Free [] = Unit
-  Free (r ∷ rs) = (S r ≡ false) × Free rs
-
-  free-if : (b : Bool) (r : ℕ) (rs : List ℕ) → S r ≡ b → Free rs → Free (cond b rs (r ∷ rs))
-  unfolding Free
-  free-if true r rs e f = f
-  free-if false r rs e f = (e, f)
-
-  without-free : (rs : List ℕ) → Free (without S rs)
-  unfolding Free without
-  without-free [] = tt
-  without-free (r ∷ rs) = free-if (S r) r (without S rs) refl (without-free rs)
-
-  pick-free : (b : Bool) (q r : ℕ) → S q ≡ false → S r ≡ false → S (cond b q r) ≡ false
-  pick-free true q r p t = p
-  pick-free false q r p t = t
-
-  least-free : (L : ℕ → ℕ) (r : ℕ) (rs : List ℕ) → S r ≡ false → Free rs → S (leastOf L r rs) ≡ false
-  unfolding Free leastOf
-  least-free L r [] e f = e
-  least-free L r (q ∷ qs) e f = least-free L (cond (ltb (L q) (L r)) q r) qs (pick-free (ltb (L q) (L r)) q r (f .0) e) (f .1)
-
-  first-free : (L : ℕ → ℕ) (rs : List ℕ) (q : ℕ) → Free rs → firstLeast L rs ≡ row q → S q ≡ false
-  unfolding Free firstLeast
-  first-free L [] q f e =
-      let z : _≡_ {A = ℕ} 0 1 = cc in
-      absurd (omega arith)
-  first-free L (r ∷ rs) q f e =
-      let same : leastOf L r rs ≡ q = cc in
-      rw (← same) (least-free L r rs (f .0) (f .1))
+    let f = or-is-false (eqb q r || together cs q r) (skipped cs qs r) .0 e in
+    or-is-false (eqb q r) (holds qs r) .1 (or-is-false (eqb q r) (together cs q r) .0 (f .0) .0, skipped-out cs qs r (f .1))
 
 -- ---- the relaxed pick is not held, where a row is free
 if-out : (b : Bool) (c : List ℕ) (x y : ℕ) → holds c y ≡ b → (b ≡ true → holds c x ≡ false) → holds c (cond b x y) ≡ false
 if-out true c x y e f = f refl
 if-out false c x y e f = e
 
-held-later : (r : ℕ) (rs : List ℕ) (x : ℕ) (c : List ℕ) (b : Bool) → eqb r x ≡ b → (b || holds rs x) ≡ true → holds c x ≡ false → holds c r ≡ true → holds rs x ≡ true
+held-later : (r : ℕ) (rs : List ℕ) (x : ℕ) (c : List ℕ) (b : Bool) → eqb r x ≡ b → (b || holds rs x) ≡ true → holds c x ≡ false → holds c r ≡ true
+    → holds rs x ≡ true
 held-later r rs x c true p h e held =
     let same = eqb-true r x p in
     absurd (true≢false (sym held ∙ rw same e))
@@ -139,20 +99,14 @@ free-row (a ∷ (b ∷ [])) h = free-of-two a b
 free-row (a ∷ (b ∷ (c ∷ l))) h = absurd (omega arith)
 
 -- ---- a pick takes a row that the column does not hold
-settled-out : (m : ℕ) (picked : List ℕ) (start : ℕ) (f : Found) → 3 ≤ m → start ≤ m → length picked < 3 → ((r : ℕ) → f ≡ row r → holds picked r ≡ false)
-    → holds picked (settled m picked start f .row) ≡ false
-unfolding settled
-settled-out m picked start (row r) some h few free = free r refl
-settled-out m picked start nothing some h few free =
-    let o = free-row picked few in
-    outside-out picked (onceRound m start) 0 (o .at) (round-holds m start (o .at) h (omega (arith, o .low))) (o .out)
-
 pick-out : (m : ℕ) (cs : List (List ℕ)) (picked : List ℕ) (s : ℕ) → 3 ≤ m → length picked < 3 → holds picked (pick m cs picked s .row) ≡ false
-unfolding pick search
+unfolding pick
 pick-out m cs picked s some few =
     let low : s % m < m = mod-lt s (omega arith) in
-    settled-out m picked (s % m) _ some (omega arith) few
-    (λ r e. skipped-out cs picked r (first-free (skipped cs picked) (load cs) (without (skipped cs picked) (onceRound m (s % m))) r (without-free (skipped cs picked) (onceRound m (s % m))) e))
+    let o = free-row picked few in
+    settled-has (λ r. holds picked r ≡ false) m picked (s % m) (search m (load cs) (skipped cs picked) (s % m))
+    (λ r e. skipped-out cs picked r (search-free m (load cs) (skipped cs picked) (s % m) r e))
+    (outside-out picked (onceRound m (s % m)) 0 (o .at) (round-holds m (s % m) (o .at) (omega arith) (omega (arith, o .low))) (o .out))
 
 -- ---- the rows of a column
 -- each row is none of those before it
@@ -164,8 +118,9 @@ snoc-different : (xs : List ℕ) (x : ℕ) → Different xs → holds xs x ≡ f
 unfolding Different holds
 snoc-different [] x d e = (refl, tt)
 snoc-different (y ∷ ys) x d e =
-    let apart : eqb x y ≡ false = ne-eqb x y (λ p. eqb-false y x (or-left (eqb y x) (holds ys x) e) (sym p)) in
-    (holds-append ys (x ∷ []) y ∙ rw (d .0, apart), snoc-different ys x (d .1) (or-right (eqb y x) (holds ys x) e))
+    let f = or-is-false (eqb y x) (holds ys x) .0 e in
+    let apart : eqb x y ≡ false = ne-eqb x y (λ p. eqb-false y x (f .0) (sym p)) in
+    (holds-append ys (x ∷ []) y ∙ rw (d .0, apart), snoc-different ys x (d .1) (f .1))
 
 picks-length : (t m : ℕ) (cs : List (List ℕ)) (s : ℕ) → length (picks t m cs s .rows) ≡ t
 unfolding picks onePick
@@ -187,7 +142,9 @@ three-different m cs s some = (picks-different 3 m cs s (omega arith) some, pick
 times-none : (xs : List ℕ) (r : ℕ) → holds xs r ≡ false → times xs r ≡ 0
 unfolding holds times
 times-none [] r e = refl
-times-none (x ∷ xs) r e = rw (or-left (eqb x r) (holds xs r) e) (omega (arith, times-none xs r (or-right (eqb x r) (holds xs r) e)))
+times-none (x ∷ xs) r e =
+    let f = or-is-false (eqb x r) (holds xs r) .0 e in
+    rw (f .0) (omega (arith, times-none xs r (f .1)))
 
 once-if : (x r : ℕ) (xs : List ℕ) (b : Bool) → eqb x r ≡ b → holds xs x ≡ false → times xs r ≤ 1 → cond b 1 0 + times xs r ≤ 1
 once-if x r xs true e d h =

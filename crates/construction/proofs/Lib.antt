@@ -1,3 +1,4 @@
+pub mod Rows
 pub mod Searches
 pub mod Columns
 pub mod Marks

@@ -1,6 +1,5 @@
 -- A column whose three picks are made, sorted and counted is the definition's next column. The flat table is cut where the column lies.
 use mathlib.Core.Path.{_≡_, refl, sym, ap, _∙_}
-use mathlib.Core.Bool.{Bool, true, false, cond}
 use mathlib.Core.List.{List, [], _∷_, _++_, append-assoc, append-nil}
 use Prim.Native.Nat.{ℕ, zero, suc, _+_, _-_, _*_, _≤_, _<_}
 use native.Mathlib.Numerals.{add-one}
@@ -9,64 +8,18 @@ use borrow.Rule.Slice.PartMut.{putMid}
 use lib.Dec.{leb}
 use lib.ListN.{length, take, drop, replicate, getD-replicate, length-take, length-drop, length-replicate}
 use lib.Seq.{take-at, drop-at, take-add, length-take-le, take-length}
-use Rattle.construction.specs.Columns.{insert, sorted, picks, load, finished, nextColumn, made, laidBefore, rowsOf}
-use Rattle.construction.specs.Tables.{columnAt, columnsIn, AllBelow, Loads, Loaded, Room, Ready, Picked, ColumnMade}
+use Rattle.construction.specs.Columns.{insert, sorted, load, skipped, finished, nextColumn, made, laidBefore, rowsOf}
+use Rattle.construction.specs.Tables.{columnAt, columnsIn, AllBelow, Loads, Loaded, Flags, flagAt, Room, Ready, Begun, Finished, ColumnMade}
+use Rattle.construction.specs.Tables.{Blank, Constructed}
+use Rattle.construction.proofs.Rows.{either, Each, each-append, each-left, each-right, each-sorted, each-all, all-each}
 use Rattle.construction.proofs.Columns.{times-le}
-use Rattle.construction.proofs.Picks.{columns-same}
+use Rattle.construction.proofs.Picks.{columns-same, Picked}
 
--- ---- rows below m, one by one
-Each : ℕ → List ℕ → Type 0
-Each m [] = Unit
-Each m (r ∷ rs) = (r < m) × Each m rs
-
-each-all : (m : ℕ) (l : List ℕ) → Each m l → AllBelow m l
-unfolding Each AllBelow
-each-all m [] e i h = absurd (omega arith)
-each-all m (r ∷ rs) e zero h = e .0
-each-all m (r ∷ rs) e (suc i) h = each-all m rs (e .1) i (omega arith)
-
-all-each : (m : ℕ) (l : List ℕ) → AllBelow m l → Each m l
-unfolding Each AllBelow
-all-each m [] a = tt
-all-each m (r ∷ rs) a = (a 0 (omega arith), all-each m rs (λ i h. a (suc i) (omega arith)))
-
-each-append : (m : ℕ) (xs ys : List ℕ) → Each m xs → Each m ys → Each m (xs ++ ys)
-unfolding Each
-each-append m [] ys p q = q
-each-append m (x ∷ xs) ys p q = (p .0, each-append m xs ys (p .1) q)
-
-each-left : (m : ℕ) (xs ys : List ℕ) → Each m (xs ++ ys) → Each m xs
-unfolding Each
-each-left m [] ys p = tt
-each-left m (x ∷ xs) ys p = (p .0, each-left m xs ys (p .1))
-
-each-right : (m : ℕ) (xs ys : List ℕ) → Each m (xs ++ ys) → Each m ys
-unfolding Each
-each-right m [] ys p = p
-each-right m (x ∷ xs) ys p = each-right m xs ys (p .1)
-
-each-if : (m : ℕ) (b : Bool) (xs ys : List ℕ) → Each m xs → Each m ys → Each m (cond b xs ys)
-each-if m true xs ys p q = p
-each-if m false xs ys p q = q
-
-each-insert : (m r : ℕ) (l : List ℕ) → r < m → Each m l → Each m (insert r l)
-unfolding Each insert
-each-insert m r [] h e = (h, tt)
-each-insert m r (q ∷ qs) h e = each-if m (leb r q) _ _ (h, e) (e .0, each-insert m r qs h (e .1))
-
-each-sorted : (m : ℕ) (l : List ℕ) → Each m l → Each m (sorted l)
-unfolding Each sorted
-each-sorted m [] e = tt
-each-sorted m (r ∷ rs) e = each-insert m r (sorted rs) (e .0) (each-sorted m rs (e .1))
-
-length-if : (b : Bool) (xs ys : List ℕ) (n : ℕ) → length xs ≡ n → length ys ≡ n → length (cond b xs ys) ≡ n
-length-if true xs ys n p q = p
-length-if false xs ys n p q = q
-
+-- ---- sorting keeps the length
 insert-length : (r : ℕ) (l : List ℕ) → length (insert r l) ≡ suc (length l)
 unfolding insert
 insert-length r [] = refl
-insert-length r (q ∷ qs) = length-if (leb r q) _ _ _ refl (ap suc (insert-length r qs))
+insert-length r (q ∷ qs) = either (λ (l : List ℕ). length l ≡ suc (suc (length qs))) (leb r q) refl (ap suc (insert-length r qs))
 
 pub sorted-length : (l : List ℕ) → length (sorted l) ≡ length l
 unfolding sorted
@@ -83,62 +36,88 @@ load-le rows (suc n) r =
     omega (arith, load-le rows n r, times-le c r)
 
 -- ---- a column that is put in its place
-module _ {m n state : ℕ} {rows rows′ marks′ : List ℕ} {s x : ℕ} (p : Picked m n 3 state rows s x rows′ marks′) (v : List ℕ) (long : 3 * n + 3 ≤ length rows)
-    (same : v ≡ sorted (take (3 * n + 3 - 3 * n) (drop (3 * n) rows′))) where
+module _ {m n : ℕ} {rows loads marks : List ℕ} (b : Begun m n 3 rows loads marks) (v : List ℕ)
+    (same : v ≡ sorted (take (3 * n + 3 - 3 * n) (drop (3 * n) rows))) where
   three : 3 * n + 3 - 3 * n ≡ 3
   three = omega arith
 
-  v-is : v ≡ sorted (picks 3 m (columnsIn rows n) state .rows)
-  v-is = rw (three, p .picked) at same
+  -- the table with the sorted column in it
+  abbrev whole : List ℕ
+  whole = putMid (3 * n) (3 * n + 3 - 3 * n) rows v
+
+  v-is : v ≡ sorted (columnAt rows n)
+  unfolding columnAt
+  v-is = rw three at same
 
   v-size : length v ≡ 3
-  v-size =
-      ap length (rw three at same) ∙ sorted-length (take 3 (drop (3 * n) rows′))
-      ∙ length-take-le 3 (drop (3 * n) rows′) (simp length-drop (omega (arith, p .size)))
+  unfolding columnAt
+  v-size = ap length v-is ∙ sorted-length (columnAt rows n) ∙ length-take-le 3 (drop (3 * n) rows) (simp length-drop (omega (arith, b .room)))
 
-  front : length (take (3 * n) rows′) ≡ 3 * n
-  front = length-take-le (3 * n) rows′ (omega (arith, p .size))
+  front : length (take (3 * n) rows) ≡ 3 * n
+  front = length-take-le (3 * n) rows (omega (arith, b .room))
 
-  whole-cut : take 3 (drop (3 * n) (putMid (3 * n) (3 * n + 3 - 3 * n) rows′ v)) ≡ v
-  whole-cut = rw (drop-at (take (3 * n) rows′) (v ++ drop (3 * n + 3 - 3 * n) (drop (3 * n) rows′)) (3 * n) front) (take-at v _ 3 v-size)
+  whole-cut : take 3 (drop (3 * n) whole) ≡ v
+  whole-cut = rw (drop-at (take (3 * n) rows) (v ++ drop (3 * n + 3 - 3 * n) (drop (3 * n) rows)) (3 * n) front) (take-at v _ 3 v-size)
 
-  pub whole-column : take (3 * n + 3 - 3 * n) (drop (3 * n) (putMid (3 * n) (3 * n + 3 - 3 * n) rows′ v)) ≡ v
-  whole-column = ap (λ (k : ℕ). take k (drop (3 * n) (putMid (3 * n) (3 * n + 3 - 3 * n) rows′ v))) three ∙ whole-cut
+  pub whole-column : take (3 * n + 3 - 3 * n) (drop (3 * n) whole) ≡ v
+  whole-column = ap (λ (k : ℕ). take k (drop (3 * n) whole)) three ∙ whole-cut
 
-  whole-earlier : take (3 * n) (putMid (3 * n) (3 * n + 3 - 3 * n) rows′ v) ≡ take (3 * n) rows
-  whole-earlier = take-at (take (3 * n) rows′) _ (3 * n) front ∙ p .earlier
+  whole-earlier : take (3 * n) whole ≡ take (3 * n) rows
+  whole-earlier = take-at (take (3 * n) rows) _ (3 * n) front
 
-  whole-columns : columnsIn (putMid (3 * n) (3 * n + 3 - 3 * n) rows′ v) (suc n) ≡ v ∷ columnsIn rows n
+  whole-columns : columnsIn whole (suc n) ≡ v ∷ columnsIn rows n
   unfolding columnsIn columnAt
-  whole-columns = rw (columns-same n _ rows whole-earlier, whole-cut)
+  whole-columns = rw whole-cut (ap (λ (cs : List (List ℕ)). v ∷ cs) (columns-same n whole rows whole-earlier))
 
-  rows-each : Each m (take (3 * n) rows′ ++ take 3 (drop (3 * n) rows′))
-  rows-each = rw (take-add (3 * n) 3 rows′) at (all-each m _ (p .below))
+  rows-each : Each (λ r. r < m) (take (3 * n) rows ++ take 3 (drop (3 * n) rows))
+  rows-each = rw (take-add (3 * n) 3 rows) at (all-each m _ (b .below))
 
-  v-each : Each m v
-  v-each = rw (same, three) (each-sorted m _ (each-right m (take (3 * n) rows′) _ rows-each))
+  v-each : Each (λ r. r < m) v
+  v-each = rw (same, three) (each-sorted (λ r. r < m) _ (each-right (λ r. r < m) (take (3 * n) rows) _ rows-each))
+
+  whole-each : Each (λ r. r < m) (take (3 * n) rows ++ v)
+  whole-each = each-append (λ r. r < m) (take (3 * n) rows) v (each-left (λ r. r < m) (take (3 * n) rows) _ rows-each) v-each
 
   pub v-below : AllBelow m v
   v-below = each-all m v v-each
 
-  pub room : {loads marks : List ℕ} → Ready m (columnsIn rows n) loads marks → 3 * n + 3 < 65536 → Room (length v) loads
+  pub room : Room (length v) loads
   unfolding Room Loads
-  room ready small r h = omega (arith, ready .right r h, load-le rows n r, v-size)
+  room r h = omega (arith, b .ready .right r h, load-le rows n r, v-size, b .few)
 
-  pub column-made : {loads loads′ marks : List ℕ} → Ready m (columnsIn rows n) loads marks → Loaded v loads loads′ → length loads′ ≡ length loads
-      → ColumnMade m n state rows s x (putMid (3 * n) (3 * n + 3 - 3 * n) rows′ v) loads′
+  pub finished-column : {loads′ : List ℕ} → Loaded v loads loads′ → length loads′ ≡ length loads
+      → Finished m n (columnAt rows n) rows whole loads′ (replicate (length marks) 0)
   unfolding Loads Loaded load
-  column-made ready count size = record {
-    drawn = p .drawn;
-    relaxes = p .relaxes;
-    atMost = p .atMost;
+  finished-column count size = record {
     columns = whole-columns ∙ ap (λ (c : List ℕ). c ∷ columnsIn rows n) v-is;
+    ready = record {
+      some = b .ready .some;
+      narrow = b .ready .narrow;
+      rowsAre = size ∙ b .ready .rowsAre;
+      flagsAre = length-replicate (length marks) 0 ∙ b .ready .flagsAre;
+      right = λ r h. rw whole-columns (count r (omega arith) ∙ rw (b .ready .right r (omega arith)));
+    };
     below =
         let e : 3 * suc n ≡ 3 * n + 3 = omega arith in
-        rw (e, take-add (3 * n) 3 (putMid (3 * n) (3 * n + 3 - 3 * n) rows′ v), whole-earlier, whole-cut)
-        (each-all m _ (each-append m (take (3 * n) rows) v (rw (p .earlier) at (each-left m (take (3 * n) rows′) _ rows-each)) v-each));
-    loads = λ r h. rw whole-columns (count r (omega arith) ∙ rw (ready .right r (omega arith)));
+        rw (e, take-add (3 * n) 3 whole, whole-earlier, whole-cut) (each-all m _ whole-each);
+    clear = ap (λ (k : ℕ). replicate k 0) (b .ready .flagsAre);
   }
+
+-- three picks, finished
+pub column-made : {m n state s x : ℕ} {rows rows′ rows″ loads″ marks″ : List ℕ} → Picked m n 3 state rows s x rows′
+    → Finished m n (columnAt rows′ n) rows′ rows″ loads″ marks″ → ColumnMade m n state rows s x rows″ loads″ marks″
+unfolding columnAt
+column-made {n = n} {rows = rows} {rows′} p f = record {
+  drawn = p .drawn;
+  relaxes = p .relaxes;
+  atMost = p .atMost;
+  finished = record {
+    columns = rw (← p .picked, ← columns-same n rows′ rows (p .earlier)) (f .columns);
+    ready = f .ready;
+    below = f .below;
+    clear = f .clear;
+  };
+}
 
 -- ---- the columns one after another
 pub laid-rows : (rows l : List ℕ) (n : ℕ) → 3 * n ≤ length rows → laidBefore (columnsIn rows n) l ≡ take (3 * n) rows ++ l
@@ -157,42 +136,77 @@ pub record Built (m n seed : ℕ) (rows loads marks : List ℕ) (state relaxed :
   pub atMost : relaxed ≤ 3 * n
   pub columns : columnsIn rows n ≡ made n m seed .columns
   pub below : AllBelow m (take (3 * n) rows)
+  pub clear : marks ≡ replicate m 0
+
+-- loads and flags that are cleared
+pub cleared-blank : (m n k : ℕ) (rows loads marks : List ℕ) → length rows ≡ 3 * k → 3 * k < 65536 → (0 < m) × ((m ≤ 65536) × (n ≡ m))
+    → loads ≡ replicate m 0 → marks ≡ replicate n 0 → Blank (length loads) k rows loads marks
+cleared-blank m n k rows loads marks long small sizes unloaded clear =
+    let same = ap length unloaded ∙ length-replicate m 0 in
+    record {
+      some = rw same (sizes .0);
+      narrow = rw same (sizes .1 .0);
+      room = long;
+      few = small;
+      unloaded = rw same unloaded;
+      clear = rw (same, ← sizes .1 .1) clear;
+    }
 
 zero-loads : (m : ℕ) → Loads [] (replicate m 0)
 unfolding Loads load
 zero-loads m r h = getD-replicate {A = ℕ} m r 0 0 (omega (arith, length-replicate {A = ℕ} m 0))
 
-pub built-none : (m seed : ℕ) (rows marks : List ℕ) → 0 < m → m ≤ 65536 → length marks ≡ m → Built m 0 seed rows (replicate m 0) marks seed 0
+pub built-none : {m k : ℕ} {rows loads marks : List ℕ} (seed : ℕ) → Blank m k rows loads marks → Built m 0 seed rows loads marks seed 0
 unfolding made columnsIn AllBelow
-built-none m seed rows marks some narrow size = record {
-  ready = record { some = some; narrow = narrow; rowsAre = length-replicate m 0; flagsAre = size; right = zero-loads m };
+built-none {m} seed b = record {
+  ready = record {
+    some = b .some;
+    narrow = b .narrow;
+    rowsAre = ap length (b .unloaded) ∙ length-replicate m 0;
+    flagsAre = ap length (b .clear) ∙ length-replicate m 0;
+    right = rw (b .unloaded) (zero-loads m);
+  };
   drawn = refl;
   relaxes = refl;
   atMost = omega arith;
   columns = refl;
   below = λ i h. absurd (omega arith);
+  clear = b .clear;
+}
+
+-- the next column can begin
+pub built-begun : {m n seed : ℕ} {rows loads marks : List ℕ} {s x : ℕ} → Built m n seed rows loads marks s x → 3 * n + 3 ≤ length rows → 3 * n + 3 < 65536
+    → Begun m n 0 rows loads marks
+unfolding Flags skipped flagAt
+built-begun {m} {n} b room few = record {
+  ready = b .ready;
+  room = room;
+  few = few;
+  below =
+      let e : 3 * n + 0 ≡ 3 * n = omega arith in
+      rw e (b .below);
+  flags = rw (b .clear) (λ r h. rw (getD-replicate {A = ℕ} m r 0 0 (omega (arith, length-replicate {A = ℕ} m 0))));
 }
 
 pub built-more : {m n seed : ℕ} {rows rows′ loads loads′ marks marks′ : List ℕ} {s s′ x x′ : ℕ} → Built m n seed rows loads marks s x
-    → ColumnMade m n s rows s′ x′ rows′ loads′ → length loads′ ≡ length loads → length marks′ ≡ length marks → Built m (n + 1) seed rows′ loads′ marks′ s′ (x + x′)
+    → ColumnMade m n s rows s′ x′ rows′ loads′ marks′ → Built m (n + 1) seed rows′ loads′ marks′ s′ (x + x′)
 unfolding made nextColumn finished
-built-more {n = n} b c same-loads same-marks = record {
-  ready = record {
-    some = b .ready .some;
-    narrow = b .ready .narrow;
-    rowsAre = same-loads ∙ b .ready .rowsAre;
-    flagsAre = same-marks ∙ b .ready .flagsAre;
-    right = rw add-one (c .loads);
-  };
+built-more {n = n} b c = record {
+  ready = rw add-one (c .finished .ready);
   drawn = rw (add-one, c .drawn, b .columns, b .drawn);
   relaxes = rw (add-one, c .relaxes, b .columns, b .drawn, b .relaxes);
   atMost = omega (arith, b .atMost, c .atMost);
-  columns = rw (add-one, c .columns, b .columns, b .drawn);
-  below = rw add-one (c .below);
+  columns = rw (add-one, c .finished .columns, b .columns, b .drawn);
+  below = rw add-one (c .finished .below);
+  clear = c .finished .clear;
 }
 
-pub built-rows : {m n seed : ℕ} {rows loads marks : List ℕ} {s x : ℕ} → length rows ≡ 3 * n → Built m n seed rows loads marks s x → rows ≡ rowsOf n m seed
+pub built-all : {m n seed : ℕ} {rows loads marks : List ℕ} {s x : ℕ} → length rows ≡ 3 * n → Built m n seed rows loads marks s x → Constructed n m seed rows s x
 unfolding rowsOf
-built-rows {n = n} {rows = rows} size b =
+built-all {n = n} {rows = rows} size b =
     let all = laid-rows rows [] n (omega arith) in
-    sym (rw (← b .columns) (all ∙ append-nil (take (3 * n) rows) ∙ rw (← size) (take-length rows)))
+    record {
+      rows = sym (rw (← b .columns) (all ∙ append-nil (take (3 * n) rows) ∙ rw (← size) (take-length rows)));
+      state = b .drawn;
+      relaxes = b .relaxes;
+    }

@@ -11,7 +11,7 @@ use lib.ListN.{length, getD, set, take, drop, length-set, length-take, replicate
 use borrow.Author.Fill.{fill-more}
 use lib.Seq.{getD-set-same, getD-set-other, take-suc, drop-length, getD-take, getD-drop}
 use Rattle.construction.specs.Columns.{holds, times, together}
-use Rattle.construction.specs.Tables.{flagAt, columnAt, columnsIn, AllBelow, Marked, MarkedWith, AllMarked, Flags, Loaded, Room}
+use Rattle.construction.specs.Tables.{flagAt, columnAt, columnsIn, AllBelow, Marked, MarkedWith, AllMarked, Loaded, Room}
 use Rattle.construction.proofs.Columns.{holds-append, times-append, times-le}
 
 -- ---- one store
@@ -108,7 +108,8 @@ joined-all cs q u v inv r h =
     inv r (simp length-set (omega arith)) ∙ rw (flag-set-at u q r h) (or-swap (eqb q r) (together cs q r) (flagAt u r))
 
 -- ---- zeros
-pub cleared-more : (u v : List ℕ) (i : ℕ) → i < length v → length v ≡ length u → v ≡ replicate i 0 ++ drop i u → set v i 0 ≡ replicate (i + 1) 0 ++ drop (i + 1) u
+pub cleared-more : (u v : List ℕ) (i : ℕ) → i < length v → length v ≡ length u → v ≡ replicate i 0 ++ drop i u
+    → set v i 0 ≡ replicate (i + 1) 0 ++ drop (i + 1) u
 cleared-more u v i h size e = rw e (fill-more i 0 u (omega arith))
 
 pub cleared-done : (u v : List ℕ) (i : ℕ) → length v ≤ i → i ≤ length u → length v ≡ length u → v ≡ replicate i 0 ++ drop i u → v ≡ replicate (length u) 0

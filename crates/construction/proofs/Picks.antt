@@ -9,13 +9,15 @@ use native.Mathlib.Numerals.{add-one}
 use native.Mathlib.Omega.{arith}
 use native.Mathlib.Decide.{decLt}
 use lib.Dec.{ltb, eqb}
-use lib.ListN.{length, getD, set, take, drop, length-set, length-take, length-drop, replicate, getD-replicate, length-replicate}
+use lib.ListN.{length, getD, set, take, drop, length-set, length-take, length-drop}
 use lib.Seq.{take-set-le, take-take, getD-take, getD-set-same, getD-set-other, take-nil, drop-set-add, take-suc-set}
-use Rattle.generator.specs.Draw.{draw}
+use Rattle.xorshift.specs.Draw.{draw}
 use Rattle.construction.specs.Columns.{Found, row, nothing, Choice, upFrom, search, leastOf, settled, pick, onePick, picks, skipped, load, together}
-use Rattle.construction.specs.Tables.{metRow, metRows, Below, loadAt, flagAt, columnAt, columnsIn, AllBelow, AllMarked, Flags, Loads, Ready, Placed, Picked}
+use Rattle.construction.specs.Tables.{metRow, metRows, Below, loadAt, flagAt, columnAt, columnsIn, AllBelow, AllMarked, Flags, Loads, Ready, Begun}
+use Rattle.construction.specs.Tables.{Placed}
 use Rattle.construction.proofs.Searches.{met-round}
-use Rattle.construction.proofs.Columns.{either-below}
+use Rattle.construction.proofs.Rows.{either}
+use Rattle.construction.proofs.Marks.{part-below}
 
 module _ (m : ℕ) (L L′ : ℕ → ℕ) (S S′ : ℕ → Bool) (loads : (r : ℕ) → r < m → L r ≡ L′ r) (flags : (r : ℕ) → r < m → S r ≡ S′ r) where
   met-same : (b : Bool) (r : ℕ) (f : Found) → r < m → Below m f → metRow L b r f ≡ metRow L′ b r f
@@ -28,7 +30,7 @@ module _ (m : ℕ) (L L′ : ℕ → ℕ) (S S′ : ℕ → Bool) (loads : (r : 
   unfolding metRow leastOf Below
   met-below true r f h low = low
   met-below false r nothing h low = h
-  met-below false r (row q) h low = either-below (ltb (L r) (L q)) r q m h low
+  met-below false r (row q) h low = either (λ (x : ℕ). x < m) (ltb (L r) (L q)) h low
 
   mets-same : (n a : ℕ) (f : Found) → a + n ≤ m → Below m f → metRows L S (upFrom a n) f ≡ metRows L′ S′ (upFrom a n) f
   unfolding metRows upFrom
@@ -57,16 +59,21 @@ part-is n t rows =
     let e : 3 * n + t - 3 * n ≡ t = omega arith in
     rw e
 
-pub pick-is : {m : ℕ} {cs : List (List ℕ)} {loads marks : List ℕ} (n t state drawn : ℕ) (rows : List ℕ) {c : Choice} → Ready m cs loads marks → Flags cs (take t (drop (3 * n) rows)) marks
-    → drawn ≡ draw state
-    → c ≡ settled (length loads) (take (3 * n + t - 3 * n) (drop (3 * n) rows)) (drawn % length loads) (search (length loads) (loadAt loads) (flagAt marks) (drawn % length loads))
-    → c ≡ pick m cs (take t (drop (3 * n) rows)) (draw state)
+-- the pick from the loads and the flags, for a column of which these rows stand
+abbrev looked-up : List ℕ → List ℕ → List ℕ → ℕ → Choice
+looked-up loads marks picked drawn =
+    settled (length loads) picked (drawn % length loads) (search (length loads) (loadAt loads) (flagAt marks) (drawn % length loads))
+
+pick-is : {m : ℕ} {cs : List (List ℕ)} {loads marks : List ℕ} (n t drawn : ℕ) (rows : List ℕ) {c : Choice} → Ready m cs loads marks
+    → Flags cs (take t (drop (3 * n) rows)) marks → c ≡ looked-up loads marks (take (3 * n + t - 3 * n) (drop (3 * n) rows)) drawn
+    → c ≡ pick m cs (take t (drop (3 * n) rows)) drawn
 unfolding pick Flags Loads loadAt
-pick-is {m} {cs} {loads} {marks} n t state drawn rows ready flags e c =
-    let k = ready .rowsAre in
+pick-is {m} {cs} {loads} {marks} n t drawn rows ready flags c =
     let low = mod-lt drawn (ready .some) in
-    let same = search-same m (loadAt loads) (load cs) (flagAt marks) (skipped cs (take t (drop (3 * n) rows))) (λ r h. ready .right r (omega arith)) (λ r h. flags r (omega (arith, ready .flagsAre))) (drawn % m) (omega arith) in
-    c ∙ rw (k, part-is n t rows, same, e)
+    let same =
+    search-same m (loadAt loads) (load cs) (flagAt marks) (skipped cs (take t (drop (3 * n) rows))) (λ r h. ready .right r (omega (arith, ready .rowsAre)))
+    (λ r h. flags r (omega (arith, ready .flagsAre))) (drawn % m) (omega arith) in
+    c ∙ rw (ready .rowsAre, part-is n t rows, same)
 
 skipped-append : (cs : List (List ℕ)) (xs ys : List ℕ) (r : ℕ) → skipped cs (xs ++ ys) r ≡ (skipped cs xs r || skipped cs ys r)
 unfolding skipped
@@ -77,27 +84,12 @@ one-skipped : (cs : List (List ℕ)) (q r : ℕ) → skipped cs (q ∷ []) r ≡
 unfolding skipped
 one-skipped cs q r = or-false (eqb q r || together cs q r)
 
-flags-more : (cs : List (List ℕ)) (picked : List ℕ) (q : ℕ) (u v : List ℕ) → length v ≡ length u → Flags cs picked u → AllMarked cs q u v → Flags cs (picked ++ (q ∷ [])) v
+flags-more : (cs : List (List ℕ)) (picked : List ℕ) (q : ℕ) (u v : List ℕ) → length v ≡ length u → Flags cs picked u → AllMarked cs q u v
+    → Flags cs (picked ++ (q ∷ [])) v
 unfolding Flags AllMarked
 flags-more cs picked q u v size f m r h =
     m r (omega arith)
     ∙ rw (f r (omega arith), skipped-append cs picked (q ∷ []) r, one-skipped cs q r) (or-comm (eqb q r || together cs q r) (skipped cs picked r))
-
-pub placed : {m : ℕ} (n t state drawn : ℕ) (rows loads marks marks′ : List ℕ) (c : Choice) → Ready m (columnsIn rows n) loads marks
-    → Flags (columnsIn rows n) (take t (drop (3 * n) rows)) marks → drawn ≡ draw state
-    → c ≡ settled (length loads) (take (3 * n + t - 3 * n) (drop (3 * n) rows)) (drawn % length loads) (search (length loads) (loadAt loads) (flagAt marks) (drawn % length loads))
-    → c .row < m → c .relaxed ≤ 1 → length marks′ ≡ length marks → AllMarked (columnsIn rows n) (c .row) marks marks′
-    → Placed m n t state rows drawn (c .relaxed) (set rows (3 * n + t) (c .row)) marks′
-placed n t state drawn rows loads marks marks′ c ready flags d e low most size all =
-    let same = pick-is n t state drawn rows ready flags d e in
-    record {
-      drawn = d;
-      relaxes = ap (λ (k : Choice). k .relaxed) same;
-      atMost = most;
-      stored = ap (λ (k : Choice). set rows (3 * n + t) (k .row)) same;
-      low = rw same at low;
-      flags = rw same at (flags-more _ _ (c .row) marks marks′ size flags all);
-    }
 
 -- ---- the picks of a column
 drop-take : (a b : ℕ) (l : List ℕ) → drop a (take (a + b) l) ≡ take b (drop a l)
@@ -130,56 +122,84 @@ below-more m i x u h low all j k =
         let e : j ≡ i = omega (arith, simp length-take at k) in
         rw (e, getD-take (i + 1) (set u i x) i 0 (omega arith), getD-set-same u i x 0 h) low
 
-pub picked-none : (m n state : ℕ) (rows : List ℕ) → AllBelow m (take (3 * n) rows) → Picked m n 0 state rows state 0 rows (replicate m 0)
-unfolding picks Flags skipped flagAt
-picked-none m n state rows all = record {
-  size = refl;
-  earlier = refl;
-  drawn = refl;
-  relaxes = refl;
-  atMost = omega arith;
-  picked = refl;
-  below =
-      let e : 3 * n + 0 ≡ 3 * n = omega arith in
-      rw e all;
-  flagsAre = length-replicate m 0;
-  flags = λ r h. rw (getD-replicate {A = ℕ} m r 0 0 (omega (arith, length-replicate {A = ℕ} m 0)));
-}
+pub before-below : {m n t : ℕ} {rows loads marks : List ℕ} → t < 3 → Begun m n t rows loads marks → AllBelow m (take (3 * n) rows)
+before-below {m} {n} {t} {rows} early b = part-below m (3 * n + t) 0 (3 * n) rows (omega arith) (omega (arith, b .room)) (b .below)
 
-pub picked-more : {m n t state : ℕ} {rows rows′ rows″ marks′ marks″ : List ℕ} {s s′ x x′ : ℕ} → 3 * n + t < length rows → Picked m n t state rows s x rows′ marks′
-    → Placed m n t s rows′ s′ x′ rows″ marks″ → length marks″ ≡ length marks′ → Picked m n (t + 1) state rows s′ (x + x′) rows″ marks″
-unfolding picks onePick
-picked-more {m} {n} {t} {state} {rows} {rows′} {rows″} {marks′} {marks″} {s} {s′} {x} {x′} fits p q size =
-    let cs : columnsIn rows′ n ≡ columnsIn rows n = columns-same n rows′ rows (p .earlier) in
-    let long : 3 * n + t < length rows′ = omega (arith, p .size) in
-    let c = pick m (columnsIn rows n) (picks t m (columnsIn rows n) state .rows) (draw (picks t m (columnsIn rows n) state .state)) in
-    let same : pick m (columnsIn rows′ n) (take t (drop (3 * n) rows′)) (draw s) ≡ c = rw (cs, p .picked, p .drawn) in
-    let stored : rows″ ≡ set rows′ (3 * n + t) (c .row) = rw same at (q .stored) in
+-- the table after a pick of column n: the columns before stand as they did, and the column has one row more
+module _ (n t r : ℕ) (rows : List ℕ) (fits : 3 * n + t < length rows) where
+  set-earlier : take (3 * n) (set rows (3 * n + t) r) ≡ take (3 * n) rows
+  set-earlier = take-set-le (3 * n) rows (3 * n + t) r (omega arith)
+
+  set-columns : columnsIn (set rows (3 * n + t) r) n ≡ columnsIn rows n
+  set-columns = columns-same n (set rows (3 * n + t) r) rows set-earlier
+
+  set-picked : take (t + 1) (drop (3 * n) (set rows (3 * n + t) r)) ≡ take t (drop (3 * n) rows) ++ (r ∷ [])
+  set-picked = rw (add-one, drop-set-add (3 * n) rows t r) (take-suc-set (drop (3 * n) rows) t r (simp length-drop (omega arith)))
+
+pub placed : {m : ℕ} (n t drawn : ℕ) (rows loads marks marks′ : List ℕ) (c : Choice) → t < 3 → Begun m n t rows loads marks
+    → c ≡ looked-up loads marks (take (3 * n + t - 3 * n) (drop (3 * n) rows)) drawn
+    → c .row < m → c .relaxed ≤ 1 → length marks′ ≡ length marks → AllMarked (columnsIn rows n) (c .row) marks marks′
+    → Placed m n t drawn rows loads (c .relaxed) (set rows (3 * n + t) (c .row)) marks′
+placed {m} n t drawn rows loads marks marks′ c early b e low most size all =
+    let same = pick-is n t drawn rows (b .ready) (b .flags) e in
+    let fits : 3 * n + t < length rows = omega (arith, b .room) in
+    let cs = set-columns n t (c .row) rows fits in
     record {
-      size = ap length stored ∙ simp length-set (p .size);
-      earlier = rw (stored, take-set-le (3 * n) rows′ (3 * n + t) (c .row) (omega arith)) (p .earlier);
-      drawn = rw (add-one, q .drawn, p .drawn);
-      relaxes = rw (add-one, q .relaxes, same, p .relaxes);
-      atMost = omega (arith, p .atMost, q .atMost);
-      picked =
-          rw (stored, add-one, drop-set-add (3 * n) rows′ t (c .row), take-suc-set (drop (3 * n) rows′) t (c .row) (simp length-drop (omega arith)), p .picked);
-      below =
-          let e : 3 * n + (t + 1) ≡ 3 * n + t + 1 = omega arith in
-          rw (e, stored) (below-more m (3 * n + t) (c .row) rows′ long (rw same at (q .low)) (p .below));
-      flagsAre = size ∙ p .flagsAre;
-      flags = rw add-one (rw (same, cs, p .picked) at (q .flags));
+      relaxes = ap (λ (k : Choice). k .relaxed) same;
+      atMost = most;
+      stored = ap (λ (k : Choice). set rows (3 * n + t) (k .row)) same;
+      begun = record {
+        ready = record {
+          some = b .ready .some;
+          narrow = b .ready .narrow;
+          rowsAre = b .ready .rowsAre;
+          flagsAre = size ∙ b .ready .flagsAre;
+          right = rw cs (b .ready .right);
+        };
+        room = simp length-set (b .room);
+        few = b .few;
+        below =
+            let k : 3 * n + (t + 1) ≡ 3 * n + t + 1 = omega arith in
+            rw k (below-more m (3 * n + t) (c .row) rows fits low (b .below));
+        flags = rw (cs, set-picked n t (c .row) rows fits) (flags-more _ _ (c .row) marks marks′ size (b .flags) all);
+      };
     }
 
--- what a pick needs, after some picks of the column
-module _ {m n t state : ℕ} {rows rows′ marks marks′ loads : List ℕ} {s x : ℕ} (ready : Ready m (columnsIn rows n) loads marks) (p : Picked m n t state rows s x rows′ marks′) where
-  pub ready-still : Ready m (columnsIn rows′ n) loads marks′
-  ready-still = record {
-    some = ready .some;
-    narrow = ready .narrow;
-    rowsAre = ready .rowsAre;
-    flagsAre = p .flagsAre;
-    right = rw (columns-same n rows′ rows (p .earlier)) (ready .right);
-  }
+-- t picks of column n are made: the generator's state, the rows, and how many were relaxed are the definition's
+pub record Picked (m n t state : ℕ) (rows : List ℕ) (state′ relaxed : ℕ) (rows′ : List ℕ) : Type 0 where
+  pub earlier : take (3 * n) rows′ ≡ take (3 * n) rows
+  pub drawn : state′ ≡ picks t m (columnsIn rows n) state .state
+  pub relaxes : relaxed ≡ picks t m (columnsIn rows n) state .relaxed
+  pub atMost : relaxed ≤ t
+  pub picked : take t (drop (3 * n) rows′) ≡ picks t m (columnsIn rows n) state .rows
 
-  pub flags-still : Flags (columnsIn rows′ n) (take t (drop (3 * n) rows′)) marks′
-  flags-still = rw (columns-same n rows′ rows (p .earlier), p .picked) (p .flags)
+picked-none : (m n state : ℕ) (rows : List ℕ) → Picked m n 0 state rows state 0 rows
+unfolding picks
+picked-none m n state rows = record { earlier = refl; drawn = refl; relaxes = refl; atMost = omega arith; picked = refl }
+
+picked-more : {m n t state : ℕ} {rows rows′ rows″ loads marks′ marks″ : List ℕ} {s s′ x x′ : ℕ} → t < 3 → Picked m n t state rows s x rows′
+    → Begun m n t rows′ loads marks′ → s′ ≡ draw s → Placed m n t s′ rows′ loads x′ rows″ marks″ → Picked m n (t + 1) state rows s′ (x + x′) rows″
+unfolding picks onePick
+picked-more {m} {n} {t} {state} {rows} {rows′} {rows″} {s = s} {s′ = s′} early p b d q =
+    let cs : columnsIn rows′ n ≡ columnsIn rows n = columns-same n rows′ rows (p .earlier) in
+    let fits : 3 * n + t < length rows′ = omega (arith, b .room) in
+    let c = pick m (columnsIn rows n) (picks t m (columnsIn rows n) state .rows) (draw (picks t m (columnsIn rows n) state .state)) in
+    let same : pick m (columnsIn rows′ n) (take t (drop (3 * n) rows′)) s′ ≡ c = rw (cs, p .picked, d, p .drawn) in
+    let stored : rows″ ≡ set rows′ (3 * n + t) (c .row) = rw same at (q .stored) in
+    record {
+      earlier = rw (stored, set-earlier n t (c .row) rows′ fits) (p .earlier);
+      drawn = rw (add-one, d, p .drawn);
+      relaxes = rw (add-one, q .relaxes, same, p .relaxes);
+      atMost = omega (arith, p .atMost, q .atMost);
+      picked = rw (stored, set-picked n t (c .row) rows′ fits, p .picked, add-one);
+    }
+
+-- three picks, each at the draw after the one before
+pub picked-three : {m n s s₁ s₂ s₃ x₁ x₂ x₃ : ℕ} {rows rows₁ rows₂ rows₃ loads marks marks₁ marks₂ marks₃ : List ℕ} → Begun m n 0 rows loads marks
+    → (s₁ ≡ draw s) × Placed m n 0 s₁ rows loads x₁ rows₁ marks₁ → (s₂ ≡ draw s₁) × Placed m n 1 s₂ rows₁ loads x₂ rows₂ marks₂
+    → (s₃ ≡ draw s₂) × Placed m n 2 s₃ rows₂ loads x₃ rows₃ marks₃
+    → Picked m n 3 s rows s₃ (x₁ + x₂ + x₃) rows₃
+picked-three {m} {n} {s} {s₁} {x₁ = x₁} {rows = rows} {rows₁} b one two three =
+    let first : Picked m n 1 s rows s₁ x₁ rows₁ = rw (zero-add x₁) at (picked-more (omega arith) (picked-none m n s rows) b (one .0) (one .1)) in
+    let second = picked-more (omega arith) first (one .1 .begun) (two .0) (two .1) in
+    picked-more (omega arith) second (two .1 .begun) (three .0) (three .1)

@@ -9,8 +9,9 @@ pub record Code : Type 0 where
   pub m : ℕ
   pub seed : ℕ
 
-abbrev pub length : Code → ℕ
-length c = c .k + c .m
+-- N, the block length: "M = N - K"
+abbrev pub blockLength : Code → ℕ
+blockLength c = c .k + c .m
 
 abbrev pub n512r12 : Code
 n512r12 = record { k = 256; m = 256; seed = 0x4C44_5043_3531_3200 }

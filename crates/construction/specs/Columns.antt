@@ -1,10 +1,10 @@
 -- The rows of the message columns, as document 01 ("The staircase codes") has them: each column makes three picks.
 -- A column is the list of its rows; the columns made so far stand newest first.
-use mathlib.Core.Bool.{Bool, false, cond, not, _&&_, _||_}
+use mathlib.Core.Bool.{Bool, false, cond, _&&_, _||_}
 use mathlib.Core.List.{List, [], _∷_, _++_}
 use Prim.Native.Nat.{ℕ, zero, suc, _+_, _-_, _%_}
 use lib.Dec.{leb, ltb, eqb}
-use Rattle.generator.specs.Draw.{draw}
+use Rattle.xorshift.specs.Draw.{draw}
 
 -- "The search yields a row or nothing"
 pub data Found : Type 0 where

@@ -1,12 +1,11 @@
 -- How the code holds the columns: three rows a column in one flat table, and a flag for each row that a pick skips.
 use mathlib.Core.Bool.{Bool, true, false, not, _&&_, _||_}
-use mathlib.Core.List.{List, [], _∷_, _++_}
+use mathlib.Core.List.{List, [], _∷_}
 use mathlib.Core.Path.{_≡_}
 use Prim.Native.Nat.{ℕ, zero, suc, _+_, _*_, _≤_, _<_}
 use lib.Dec.{eqb}
-use lib.ListN.{length, getD, set, take, drop}
-use Rattle.construction.specs.Columns.{Found, row, nothing, Choice, holds, together, times, load, leastOf, skipped, pick, picks, sorted}
-use Rattle.generator.specs.Draw.{draw}
+use lib.ListN.{length, getD, set, take, drop, replicate}
+use Rattle.construction.specs.Columns.{Found, row, nothing, Choice, holds, together, times, load, leastOf, skipped, pick, picks, sorted, made, rowsOf}
 use Rattle.construction.specs.declared.Taken.{Taken}
 use Rattle.construction.specs.declared.Pick.{Pick}
 use Rattle.construction.specs.declared.Pick.the-variants.{Row, Nothing}
@@ -30,7 +29,6 @@ unfoldable pub metRows : (ℕ → ℕ) → (ℕ → Bool) → List ℕ → Found
 metRows loads skip [] f = f
 metRows loads skip (r ∷ rs) f = metRows loads skip rs (metRow loads (skip r) r f)
 
--- what is found lies below m
 -- nothing beats what is found: it is a row with no load
 unfoldable pub Unbeaten : List ℕ → Found → Type 0
 Unbeaten ls (row r) = getD ls r 0 ≡ 0
@@ -96,32 +94,46 @@ pub record Ready (m : ℕ) (cs : List (List ℕ)) (loads marks : List ℕ) : Typ
   pub flagsAre : length marks ≡ m
   pub right : Loads cs loads
 
--- pick t of column n is made
-pub record Placed (m n t state : ℕ) (rows : List ℕ) (state′ relaxed : ℕ) (rows′ marks′ : List ℕ) : Type 0 where
-  pub drawn : state′ ≡ draw state
-  pub relaxes : relaxed ≡ pick m (columnsIn rows n) (take t (drop (3 * n) rows)) (draw state) .relaxed
+-- t picks of column n stand in the table: the loads are those of the columns before, and the flags those of the rows that the next pick skips
+pub record Begun (m n t : ℕ) (rows loads marks : List ℕ) : Type 0 where
+  pub ready : Ready m (columnsIn rows n) loads marks
+  pub room : 3 * n + 3 ≤ length rows
+  pub few : 3 * n + 3 < 65536
+  pub below : AllBelow m (take (3 * n + t) rows)
+  pub flags : Flags (columnsIn rows n) (take t (drop (3 * n) rows)) marks
+
+-- pick t of column n is made, at a drawn number
+pub record Placed (m n t drawn : ℕ) (rows loads : List ℕ) (relaxed : ℕ) (rows′ marks′ : List ℕ) : Type 0 where
+  pub relaxes : relaxed ≡ pick m (columnsIn rows n) (take t (drop (3 * n) rows)) drawn .relaxed
   pub atMost : relaxed ≤ 1
-  pub stored : rows′ ≡ set rows (3 * n + t) (pick m (columnsIn rows n) (take t (drop (3 * n) rows)) (draw state) .row)
-  pub low : pick m (columnsIn rows n) (take t (drop (3 * n) rows)) (draw state) .row < m
-  pub flags : Flags (columnsIn rows n) (take t (drop (3 * n) rows) ++ (pick m (columnsIn rows n) (take t (drop (3 * n) rows)) (draw state) .row ∷ [])) marks′
+  pub stored : rows′ ≡ set rows (3 * n + t) (pick m (columnsIn rows n) (take t (drop (3 * n) rows)) drawn .row)
+  pub begun : Begun m n (t + 1) rows′ loads marks′
 
--- t picks of column n are made
-pub record Picked (m n t state : ℕ) (rows : List ℕ) (state′ relaxed : ℕ) (rows′ marks′ : List ℕ) : Type 0 where
-  pub size : length rows′ ≡ length rows
-  pub earlier : take (3 * n) rows′ ≡ take (3 * n) rows
-  pub drawn : state′ ≡ picks t m (columnsIn rows n) state .state
-  pub relaxes : relaxed ≡ picks t m (columnsIn rows n) state .relaxed
-  pub atMost : relaxed ≤ t
-  pub picked : take t (drop (3 * n) rows′) ≡ picks t m (columnsIn rows n) state .rows
-  pub below : AllBelow m (take (3 * n + t) rows′)
-  pub flagsAre : length marks′ ≡ m
-  pub flags : Flags (columnsIn rows n) (picks t m (columnsIn rows n) state .rows) marks′
+-- the three rows of column n are sorted and counted, and no flag is left
+pub record Finished (m n : ℕ) (column rows rows′ loads′ marks′ : List ℕ) : Type 0 where
+  pub columns : columnsIn rows′ (suc n) ≡ sorted column ∷ columnsIn rows n
+  pub ready : Ready m (columnsIn rows′ (suc n)) loads′ marks′
+  pub below : AllBelow m (take (3 * suc n) rows′)
+  pub clear : marks′ ≡ replicate m 0
 
--- column n is made
-pub record ColumnMade (m n state : ℕ) (rows : List ℕ) (state′ relaxed : ℕ) (rows′ loads′ : List ℕ) : Type 0 where
+-- column n is made: the generator's state goes through three picks
+pub record ColumnMade (m n state : ℕ) (rows : List ℕ) (state′ relaxed : ℕ) (rows′ loads′ marks′ : List ℕ) : Type 0 where
   pub drawn : state′ ≡ picks 3 m (columnsIn rows n) state .state
   pub relaxes : relaxed ≡ picks 3 m (columnsIn rows n) state .relaxed
   pub atMost : relaxed ≤ 3
-  pub columns : columnsIn rows′ (suc n) ≡ sorted (picks 3 m (columnsIn rows n) state .rows) ∷ columnsIn rows n
-  pub below : AllBelow m (take (3 * suc n) rows′)
-  pub loads : Loads (columnsIn rows′ (suc n)) loads′
+  pub finished : Finished m n (picks 3 m (columnsIn rows n) state .rows) rows rows′ loads′ marks′
+
+-- a table with room for k columns over m rows, before the first is made
+pub record Blank (m k : ℕ) (rows loads marks : List ℕ) : Type 0 where
+  pub some : 0 < m
+  pub narrow : m ≤ 65536
+  pub room : length rows ≡ 3 * k
+  pub few : 3 * k < 65536
+  pub unloaded : loads ≡ replicate m 0
+  pub clear : marks ≡ replicate m 0
+
+-- k columns are made from a seed
+pub record Constructed (k m seed : ℕ) (rows′ : List ℕ) (state′ relaxed : ℕ) : Type 0 where
+  pub rows : rows′ ≡ rowsOf k m seed
+  pub state : state′ ≡ made k m seed .state
+  pub relaxes : relaxed ≡ made k m seed .relaxed

@@ -1,13 +1,16 @@
 // The construction of the staircase codes' message columns, proved to give what `specs/Columns.antt` says.
 pub mod codes;
 
+use xorshift::Xorshift;
 ghost use mathlib.Core.Path.{_≡_};
-ghost use mathlib.Core.Bool.{Bool, true, false};
-ghost use mathlib.Core.List.{List, [], _∷_, _++_};
-ghost use Prim.Native.Nat.{ℕ, _+_, _-_, _*_, _/_, _%_, _^_, _≤_, _<_};
-ghost use lib.ListN.{length, getD, take, drop, replicate, set};
-ghost use Rattle.construction.specs.Columns.{holds, upFrom, onceRound, search, firstOutside, settled, pick, Choice, picks, made, rowsOf, sorted, skipped};
-ghost use Rattle.construction.specs.Tables.{foundOf, metRow, metRows, Unbeaten, Below, loadAt, flagAt, columnAt, columnsIn, AllBelow, Marked, MarkedWith, AllMarked, Flags, Loads, Loaded, Room, Ready, Placed, Picked, ColumnMade, choiceOf};
+ghost use mathlib.Core.Bool.{true};
+ghost use mathlib.Core.List.{[], _∷_};
+ghost use Prim.Native.Nat.{_+_, _-_, _*_, _%_, _≤_, _<_};
+ghost use lib.ListN.{length, take, replicate};
+ghost use Rattle.xorshift.specs.Draw.{draw};
+ghost use Rattle.construction.specs.Columns.{holds, upFrom, onceRound, search, firstOutside, settled, made, rowsOf, sorted};
+ghost use Rattle.construction.specs.Tables.{foundOf, metRow, metRows, Unbeaten, Below, loadAt, flagAt, columnAt, columnsIn, AllBelow, Marked, MarkedWith};
+ghost use Rattle.construction.specs.Tables.{AllMarked, Loaded, Room, Begun, Placed, Finished, ColumnMade, Blank, Constructed, choiceOf};
 
 // What a search yields.
 pub enum Pick {
@@ -123,7 +126,8 @@ pub struct Taken {
 fn pick_row(loads: &[u16], marks: &[u8], column: &[u16], drawn: u64) -> Taken
     requires { ⌜ length (now marks) ≡ length (now loads) ⌝ }
     requires { ⌜ 0 < length (now loads) ⌝ }
-    ensures { λ r. ⌜ choiceOf r ≡ settled (length (now (loads .entry))) (now (column .entry)) (drawn % length (now (loads .entry))) (search (length (now (loads .entry))) (loadAt (now (loads .entry))) (flagAt (now (marks .entry))) (drawn % length (now (loads .entry)))) ⌝ }
+    ensures { λ r. ⌜ choiceOf r ≡ settled (length (now (loads .entry))) (now (column .entry)) (drawn % length (now (loads .entry)))
+        (search (length (now (loads .entry))) (loadAt (now (loads .entry))) (flagAt (now (marks .entry))) (drawn % length (now (loads .entry)))) ⌝ }
     ensures { λ r. ⌜ (r .row < length (now (loads .entry))) × (r .relaxed ≤ 1) ⌝ }
 {
     let m = loads.len();
@@ -246,67 +250,118 @@ fn sort_column(column: &mut [u16])
     column[2] = three.2;
 }
 
-// The generator's state, handed back, and how many picks were relaxed.
+// Pick t of column n at a drawn number: picked, stored and marked. 1 where it was relaxed, else 0.
+fn place(rows: &mut [u16], n: usize, t: usize, loads: &[u16], marks: &mut [u8], drawn: u64) -> usize
+    requires { ⌜ (t < 3) × Begun (length (now loads)) n t (now rows) (now loads) (now marks) ⌝ }
+    ensures { λ r. ⌜ Placed (length (now (loads .entry))) n t drawn (now (rows .entry)) (now (loads .entry)) r
+        (now (rows .exit)) (now (marks .exit)) ⌝ }
+{
+    let at = 3 * n;
+    let end = at + t;
+    let taken = pick_row(loads, marks, &rows[at..end], drawn);
+    let row = taken.row;
+    mark_together(marks, rows, n, row);
+    rows[end] = row as u16;
+    taken.relaxed
+}
+
+// Column n, of which three rows stand in the table: sorted and counted, and its flags cleared for the next.
+fn finish_column(rows: &mut [u16], n: usize, loads: &mut [u16], marks: &mut [u8])
+    requires { ⌜ Begun (length (now loads)) n 3 (now rows) (now loads) (now marks) ⌝ }
+    ensures { λ _. ⌜ Finished (length (now (loads .entry))) n (columnAt (now (rows .entry)) n) (now (rows .entry))
+        (now (rows .exit)) (now (loads .exit)) (now (marks .exit)) ⌝ }
+{
+    let at = 3 * n;
+    let end = at + 3;
+    sort_column(&mut rows[at..end]);
+    add_loads(loads, &rows[at..end]);
+    clear_marks(marks);
+}
+
+// From here on one generator is lent: "the generator's state is lent and advanced once per pick". The functions that take
+// or make the reference are thin: a pick draws and places, a column makes three picks, and the columns are made in turn.
+
+// Pick t of column n at the lent generator's next draw.
+fn one_pick(
+    generator: &mut Xorshift,
+    rows: &mut [u16],
+    n: usize,
+    t: usize,
+    loads: &[u16],
+    marks: &mut [u8],
+) -> usize
+    requires { ⌜ (t < 3) × Begun (length (now loads)) n t (now rows) (now loads) (now marks) ⌝ }
+    ensures { λ r. ⌜ (now (generator .exit) .state ≡ draw (now (generator .entry) .state))
+        × Placed (length (now (loads .entry))) n t (now (generator .exit) .state) (now (rows .entry)) (now (loads .entry)) r
+        (now (rows .exit)) (now (marks .exit)) ⌝ }
+{
+    let drawn = xorshift::next(generator);
+    place(rows, n, t, loads, marks, drawn)
+}
+
+// Column n: three picks, finished. How many of them were relaxed.
+fn column(
+    generator: &mut Xorshift,
+    rows: &mut [u16],
+    n: usize,
+    loads: &mut [u16],
+    marks: &mut [u8],
+) -> usize
+    requires { ⌜ Begun (length (now loads)) n 0 (now rows) (now loads) (now marks) ⌝ }
+    ensures { λ r. ⌜ ColumnMade (length (now (loads .entry))) n (now (generator .entry) .state) (now (rows .entry))
+        (now (generator .exit) .state) r (now (rows .exit)) (now (loads .exit)) (now (marks .exit)) ⌝ }
+{
+    let first = one_pick(generator, rows, n, 0, loads, marks);
+    let second = one_pick(generator, rows, n, 1, loads, marks);
+    let third = one_pick(generator, rows, n, 2, loads, marks);
+    finish_column(rows, n, loads, marks);
+    first + second + third
+}
+
+// The rows of k columns, with the lent generator. How many picks were relaxed.
+fn construct_with(
+    generator: &mut Xorshift,
+    rows: &mut [u16],
+    loads: &mut [u16],
+    marks: &mut [u8],
+    k: usize,
+) -> usize
+    requires { ⌜ Blank (length (now loads)) k (now rows) (now loads) (now marks) ⌝ }
+    ensures { λ r. ⌜ Constructed k (length (now (loads .entry))) (now (generator .entry) .state)
+        (now (rows .exit)) (now (generator .exit) .state) r ⌝ }
+{
+    let mut relaxed = 0;
+    let mut n = 0;
+    while n < k {
+        relaxed += column(generator, rows, n, loads, marks);
+        n += 1;
+    }
+    relaxed
+}
+
+// The generator's state after the last pick, and how many picks were relaxed.
 pub struct Step {
     pub state: u64,
     pub relaxed: usize,
 }
 
-// Pick t of column n: drawn, picked, stored and marked.
-fn place(rows: &mut [u16], n: usize, t: usize, loads: &[u16], marks: &mut [u8], state: u64) -> Step
-    requires { ⌜ Ready (length (now loads)) (columnsIn (now rows) n) (now loads) (now marks) ⌝ }
-    requires { ⌜ 3 * n + t < length (now rows) ⌝ }
-    requires { ⌜ AllBelow (length (now loads)) (take (3 * n) (now rows)) ⌝ }
-    requires { ⌜ Flags (columnsIn (now rows) n) (take t (drop (3 * n) (now rows))) (now marks) ⌝ }
-    ensures { λ r. ⌜ Placed (length (now (loads .entry))) n t state (now (rows .entry)) (r .state) (r .relaxed) (now (rows .exit)) (now (marks .exit)) ⌝ }
+// The rows of k columns from a seed: the generator is made of it, and lent.
+fn construct_seeded(
+    rows: &mut [u16],
+    loads: &mut [u16],
+    marks: &mut [u8],
+    k: usize,
+    seed: u64,
+) -> Step
+    requires { ⌜ Blank (length (now loads)) k (now rows) (now loads) (now marks) ⌝ }
+    ensures { λ r. ⌜ Constructed k (length (now (loads .entry))) seed (now (rows .exit)) (r .state) (r .relaxed) ⌝ }
 {
-    let at = 3 * n;
-    let end = at + t;
-    let drawn = generator::next_by_value(state);
-    let taken = pick_row(loads, marks, &rows[at..end], drawn);
-    let row = taken.row;
-    mark_together(marks, rows, n, row);
-    rows[end] = row as u16;
+    let mut generator = Xorshift { state: seed };
+    let relaxed = construct_with(&mut generator, rows, loads, marks, k);
     Step {
-        state: drawn,
-        relaxed: taken.relaxed,
+        state: generator.state,
+        relaxed,
     }
-}
-
-// The three picks of column n, in the order in which they were made.
-fn three_picks(rows: &mut [u16], n: usize, loads: &[u16], marks: &mut [u8], state: u64) -> Step
-    requires { ⌜ Ready (length (now loads)) (columnsIn (now rows) n) (now loads) (now marks) ⌝ }
-    requires { ⌜ 3 * n + 3 ≤ length (now rows) ⌝ }
-    requires { ⌜ AllBelow (length (now loads)) (take (3 * n) (now rows)) ⌝ }
-    ensures { λ r. ⌜ Picked (length (now (loads .entry))) n 3 state (now (rows .entry)) (r .state) (r .relaxed) (now (rows .exit)) (now (marks .exit)) ⌝ }
-{
-    clear_marks(marks);
-    let mut at = state;
-    let mut relaxed = 0;
-    let mut t = 0;
-    while t < 3 {
-        let step = place(rows, n, t, loads, marks, at);
-        at = step.state;
-        relaxed += step.relaxed;
-        t += 1;
-    }
-    Step { state: at, relaxed }
-}
-
-// Column n: three picks, sorted, and then the loads.
-fn column(rows: &mut [u16], n: usize, loads: &mut [u16], marks: &mut [u8], state: u64) -> Step
-    requires { ⌜ Ready (length (now loads)) (columnsIn (now rows) n) (now loads) (now marks) ⌝ }
-    requires { ⌜ 3 * n + 3 ≤ length (now rows) ⌝ }
-    requires { ⌜ 3 * n + 3 < 65536 ⌝ }
-    requires { ⌜ AllBelow (length (now loads)) (take (3 * n) (now rows)) ⌝ }
-    ensures { λ r. ⌜ ColumnMade (length (now (loads .entry))) n state (now (rows .entry)) (r .state) (r .relaxed) (now (rows .exit)) (now (loads .exit)) ⌝ }
-{
-    let step = three_picks(rows, n, loads, marks, state);
-    let at = 3 * n;
-    let end = at + 3;
-    sort_column(&mut rows[at..end]);
-    add_loads(loads, &rows[at..end]);
-    step
 }
 
 // The rows of k columns, three a column, for as many rows as there are loads.
@@ -315,17 +370,10 @@ pub fn construct(rows: &mut [u16], loads: &mut [u16], marks: &mut [u8], k: usize
     requires { ⌜ 3 * k < 65536 ⌝ }
     requires { ⌜ (0 < length (now loads)) × ((length (now loads) ≤ 65536) × (length (now marks) ≡ length (now loads))) ⌝ }
     ensures { λ r. ⌜ now (rows .exit) ≡ rowsOf k (length (now (loads .entry))) seed ⌝ }
-    ensures { λ r. ⌜ (r .state ≡ made k (length (now (loads .entry))) seed .state) × (r .relaxed ≡ made k (length (now (loads .entry))) seed .relaxed) ⌝ }
+    ensures { λ r. ⌜ (r .state ≡ made k (length (now (loads .entry))) seed .state)
+        × (r .relaxed ≡ made k (length (now (loads .entry))) seed .relaxed) ⌝ }
 {
     clear_loads(loads);
-    let mut state = seed;
-    let mut relaxed = 0;
-    let mut n = 0;
-    while n < k {
-        let step = column(rows, n, loads, marks, state);
-        state = step.state;
-        relaxed += step.relaxed;
-        n += 1;
-    }
-    Step { state, relaxed }
+    clear_marks(marks);
+    construct_seeded(rows, loads, marks, k, seed)
 }

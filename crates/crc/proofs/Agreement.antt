@@ -9,14 +9,15 @@ use lib.Bits.{bitXor, xor-mod, xor-shifted, xor-zero-r}
 use lib.ListN.{length, getD, take}
 use lib.Pow.{pow-pos, pow-add, mod-pow-add, shl-lt}
 use lib.Seq.{take-suc}
-use Rattle.crc.specs.Bits.{bits}
+use Rattle.bits.specs.Bits.{bits}
 use Rattle.crc.specs.Qex.{bringDown, divide, qex}
 use Rattle.crc.specs.Register.{fed, register, crc14, unused}
 use Rattle.crc.proofs.Xor.{xor-assoc}
 use Rattle.crc.proofs.Turn.{lowTurn, lowTurn-low, lowTurn-xor, lowTurn-double}
-use Rattle.crc.proofs.Division.{areBits-take, qex-more}
+use Rattle.bits.proofs.AreBits.{areBits-take}
+use Rattle.crc.proofs.Division.{qex-more}
 use Rattle.crc.proofs.Fed.{fed-start, fed-inside, unused-start, unused-inside}
-use Rattle.crc.proofs.Digits.{Bytes, bits-are, bits-length, bits-at}
+use Rattle.bits.proofs.Digits.{Bytes, bits-are, bits-length, bits-at}
 
 -- a byte's low bits with the uppermost of them at the top of the register: that one, and the rest
 module _ (x j k : ℕ) (e : j + k ≡ 7) where

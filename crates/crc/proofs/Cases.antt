@@ -2,7 +2,7 @@
 use mathlib.Core.Path.{_≡_, refl}
 use mathlib.Core.List.{[], _∷_}
 use lib.ListN.{take}
-use Rattle.crc.specs.Bits.{bitsOf, bits, numberAfter}
+use Rattle.bits.specs.Bits.{bitsOf, bits, numberAfter}
 use Rattle.crc.specs.Block.{carried}
 use Rattle.crc.specs.Cases.{checksumCases, Holds}
 use Rattle.crc.specs.Qex.{bringDown, divide, qex}

@@ -8,28 +8,11 @@ use native.Mathlib.Omega.{arith}
 use lib.Bits.{bitXor, xor-lt, xor-mod, xor-block, xor-self, xor-shifted, xor-zero-r}
 use lib.ListN.{replicate, take}
 use lib.Pow.{mod-mod-pow}
+use Rattle.bits.proofs.AreBits.{AreBits, none, more, areBits-append, areBits-take, zeros-are}
 use Rattle.crc.specs.Qex.{bringDown, divide, qex}
 use Rattle.crc.specs.Register.{turn}
 use Rattle.crc.proofs.Xor.{xor-right}
 use Rattle.crc.proofs.Turn.{lowTurn, lowTurn-lt, lowTurn-xor, lowTurns, lowTurns-xor, lowTurns-first, lowTurns-bit}
-
--- each is 0 or 1
-pub data AreBits : List ℕ → Type 0 where
-  none : AreBits []
-  more : {b : ℕ} {bs : List ℕ} → b < 2 → AreBits bs → AreBits (b ∷ bs)
-
-pub areBits-append : {xs ys : List ℕ} → AreBits xs → AreBits ys → AreBits (xs ++ ys)
-areBits-append none k = k
-areBits-append (more h hs) k = more h (areBits-append hs k)
-
-pub areBits-take : (n : ℕ) {xs : List ℕ} → AreBits xs → AreBits (take n xs)
-areBits-take zero h = none
-areBits-take (suc n) none = none
-areBits-take (suc n) (more h hs) = more h (areBits-take n hs)
-
-pub zeros-are : (n : ℕ) → AreBits (replicate n 0)
-zeros-are zero = none
-zeros-are (suc n) = more {b = 0} (omega arith) (zeros-are n)
 
 -- the remainder's parts: bit 13, and those below it
 low-parts : (r : ℕ) → r < 2 ^ 14 → lowTurn r ≡ bitXor (r % 2 ^ 13 * 2) (r / 2 ^ 13 * 0x2757)

@@ -1,7 +1,6 @@
 pub mod Xor
 pub mod Turn
 pub mod Division
-pub mod Digits
 pub mod Fed
 pub mod Agreement
 pub mod Places

@@ -8,14 +8,15 @@ use lib.Bits.{bitAnd, bitOr, and-high, and-mask, or-shifted}
 use lib.ListN.{length, getD, set, take, drop, replicate, length-append, take-append-drop, drop-of-length-le}
 use lib.Pow.{mod-mod-pow}
 use lib.Seq.{take-append-add, drop-append-add, getD-append-add, getD-at, drop-cons, length-take-le}
-use Rattle.crc.specs.Bits.{bitsOf, bits, numberAfter, number, packed}
+use Rattle.bits.specs.Bits.{bitsOf, bits, numberAfter, number, packed}
 use Rattle.crc.specs.Block.{payloadBits, blockChecksum, block, carried}
 use Rattle.crc.specs.Bytes.{laid, stored}
 use Rattle.crc.specs.Qex.{qex}
 use Rattle.crc.specs.Register.{crc14, unused}
 use Rattle.crc.proofs.Agreement.{register-qex}
-use Rattle.crc.proofs.Division.{qex-lt, areBits-append, areBits-take, zeros-are}
-use Rattle.crc.proofs.Digits.{Bytes, bits-are, bits-length, bits-append, take-upper, bitsOf-split, number-bits, number-append, packed-bits}
+use Rattle.bits.proofs.AreBits.{areBits-append, areBits-take, zeros-are}
+use Rattle.crc.proofs.Division.{qex-lt}
+use Rattle.bits.proofs.Digits.{Bytes, bits-are, bits-length, bits-append, take-upper, bitsOf-split, number-bits, number-append, packed-bits}
 
 -- the low three bits of a byte cleared
 cleared : (x : ℕ) → x < 256 → bitAnd x 0xF8 ≡ x / 8 * 8

@@ -6,19 +6,6 @@ use lib.Dec.{eqb, ltb}
 use lib.ListN.{length}
 use Rattle.refusal.specs.Outcome.{Outcome, accepted, refused, Condition, _when_}
 use Rattle.refusal.specs.Numbers.{numberOf}
-use Rattle.crc.specs.declared.Checksum.{Checksum}
-use Rattle.crc.specs.declared.Checksum.the-variants as checksum
-use Rattle.crc.specs.declared.Added.{Added}
-use Rattle.crc.specs.declared.Added.the-variants as added
-
-abbrev pub answerOf : Checksum → Outcome ℕ
-answerOf (checksum.Value v) = accepted v
-answerOf (checksum.Refused r) = refused (numberOf r)
-
--- a written block has no value beside it
-abbrev pub addedOf : Added → Outcome Unit
-addedOf added.Done = accepted tt
-addedOf (added.Refused r) = refused (numberOf r)
 
 -- the bytes that n bits need
 abbrev pub bytesFor : ℕ → ℕ

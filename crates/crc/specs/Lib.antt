@@ -1,4 +1,3 @@
-pub mod Bits
 pub mod Qex
 pub mod Register
 pub mod Block

@@ -1,33 +1,24 @@
 // The FT8 checksum (CRC-14): computed over bits, appended to a payload, and read back from a block.
+use refusal::Answer;
 use refusal::Refusal;
+use refusal::Status;
 ghost use mathlib.Core.Path.{_≡_};
 ghost use mathlib.Core.List.{_++_};
 ghost use Prim.Native.Nat.{_*_, _/_, _^_, _≤_, _<_};
 ghost use lib.ListN.{length, take, drop};
 ghost use Rattle.refusal.specs.Outcome.{judged, kept};
+ghost use Rattle.refusal.specs.Answers.{answerOf, statusOf};
 ghost use Rattle.crc.specs.Register.{turn, fed, crc14};
 ghost use Rattle.crc.specs.Block.{block, carried};
 ghost use Rattle.crc.specs.Bytes.{laid, stored};
-ghost use Rattle.crc.specs.Calls.{answerOf, addedOf, bytesFor, crc14Refusals, addRefusals, extractRefusals};
+ghost use Rattle.crc.specs.Calls.{bytesFor, crc14Refusals, addRefusals, extractRefusals};
 
 const POLY: u16 = 0x2757;
 
 const TOP_PLACE: u32 = 13;
 
-// The answer of a call that computes or reads a checksum.
-pub enum Checksum {
-    Value(u16),
-    Refused(Refusal),
-}
-
-// The answer of a call that writes a block.
-pub enum Added {
-    Done,
-    Refused(Refusal),
-}
-
 // One turn of the register: the polynomial is multiplied by the top bit, 0 or 1, and no test is made of it.
-fn step(r: u16) -> u16
+pub fn step(r: u16) -> u16
     ensures { λ q. ⌜ q ≡ turn r ⌝ }
 {
     let top = (r >> TOP_PLACE) % 2;
@@ -67,13 +58,13 @@ fn bytes_for(num_bits: usize) -> usize
     num_bits / 8 + (num_bits % 8 + 7) / 8
 }
 
-pub fn ft8_crc14(message: &[u8], num_bits: usize) -> Checksum
+pub fn ft8_crc14(message: &[u8], num_bits: usize) -> Answer
     ensures { λ r. ⌜ answerOf r ≡ judged (crc14Refusals (now (message .entry)) «num_bits») (crc14 (now (message .entry)) «num_bits») ⌝ }
 {
     if message.len() < bytes_for(num_bits) {
-        return Checksum::Refused(Refusal::InputLength);
+        return Answer::Refused(Refusal::InputLength);
     }
-    Checksum::Value(checksum_of(message, num_bits))
+    Answer::Value(checksum_of(message, num_bits))
 }
 
 // The first n bytes of src, in dst.
@@ -109,30 +100,30 @@ fn store_checksum(a91: &mut [u8], checksum: u16)
     a91[11] = ((checksum << 5) % 256) as u8;
 }
 
-pub fn ft8_add_crc(payload: &[u8], a91: &mut [u8]) -> Added
-    ensures { λ r. ⌜ addedOf r ≡ judged (addRefusals (now (payload .entry)) (now (a91 .entry))) tt ⌝ }
+pub fn ft8_add_crc(payload: &[u8], a91: &mut [u8]) -> Status
+    ensures { λ r. ⌜ statusOf r ≡ judged (addRefusals (now (payload .entry)) (now (a91 .entry))) tt ⌝ }
     ensures { λ _. ⌜ now (a91 .exit) ≡ kept (addRefusals (now (payload .entry)) (now (a91 .entry))) (now (a91 .entry)) (block (now (payload .entry))) ⌝ }
 {
     if payload.len() != 10 {
-        return Added::Refused(Refusal::InputLength);
+        return Status::Refused(Refusal::InputLength);
     }
     if a91.len() != 12 {
-        return Added::Refused(Refusal::OutputLength);
+        return Status::Refused(Refusal::OutputLength);
     }
     lay_payload(payload, a91);
     let checksum = checksum_of(a91, 82);
     store_checksum(a91, checksum);
-    Added::Done
+    Status::Done
 }
 
-pub fn ft8_extract_crc(a91: &[u8]) -> Checksum
+pub fn ft8_extract_crc(a91: &[u8]) -> Answer
     ensures { λ r. ⌜ answerOf r ≡ judged (extractRefusals (now (a91 .entry))) (carried (now (a91 .entry))) ⌝ }
 {
     if a91.len() != 12 {
-        return Checksum::Refused(Refusal::InputLength);
+        return Answer::Refused(Refusal::InputLength);
     }
     let top = (a91[9] & 0x07) as u16;
     let middle = a91[10] as u16;
     let low = (a91[11] >> 5) as u16;
-    Checksum::Value((top << 11) | (middle << 3) | low)
+    Answer::Value((top << 11) | (middle << 3) | low)
 }

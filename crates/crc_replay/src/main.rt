@@ -1,15 +1,15 @@
 // Replays the Rust's answers: reads messages of 25 bytes, and prints for each the checksums that tools/crc_replay.rs describes.
 // The file stdout holds what the Rust printed for the messages of the file stdin.
-use crc::Added;
-use crc::Checksum;
 use libc::STDOUT_FILENO;
+use refusal::Answer;
+use refusal::Status;
 
-fn print_checksum(c: Checksum) {
+fn print_checksum(c: Answer) {
     match c {
-        Checksum::Value(v) => {
+        Answer::Value(v) => {
             io::print_hex(STDOUT_FILENO, v as u64, 4);
         }
-        Checksum::Refused(_) => {
+        Answer::Refused(_) => {
             io::write_all(STDOUT_FILENO, b"refused");
         }
     }
@@ -38,10 +38,10 @@ fn wide(byte: u8) -> u64 {
 fn print_block(payload: &[u8]) {
     let mut block = [0xFFu8; 12];
     match crc::ft8_add_crc(payload, &mut block) {
-        Added::Done => {
+        Status::Done => {
             print_bytes(&block);
         }
-        Added::Refused(_) => {
+        Status::Refused(_) => {
             io::write_all(STDOUT_FILENO, b"refused");
         }
     }

@@ -1,71 +1,94 @@
--- The numbers of codes and rules, case by case, and what an accepted call answers. Assumes nothing.
-use mathlib.Core.Path.{_≡_, refl, sym, ap, subst}
+-- The numbers of codes and rules, case by case, and what a call that is refused or accepted answers. Assumes nothing.
+use mathlib.Core.Path.{_≡_, refl, sym, ap, subst, _∙_}
 use mathlib.Core.List.{List}
-use Prim.Native.Nat.{ℕ, zero, suc, _+_, _<_, _≤_}
-use borrow.Author.Tests.{lt-ltb, le-ltb, eq-eqb}
+use Prim.Native.Nat.{ℕ, zero, suc, _<_, _≤_}
+use native.Mathlib.Omega.{arith}
+use borrow.Author.Tests.{lt-ltb, le-ltb, eq-eqb, ne-eqb}
 use lib.Ieee.{Float}
 use lib.ListN.{length}
-use Rattle.refusal.specs.Outcome.{accepted, judged, kept}
+use Rattle.refusal.specs.Outcome.{accepted, refused}
+use Rattle.refusal.proofs.Judged.{verdict, nothing, judged-accepted, judged-refused, kept-accepted, kept-refused}
+use Rattle.construction.specs.Codes.{blockLength}
 use Rattle.staircase.specs.Codes.{codeOf}
 use Rattle.softmath.specs.declared.DecodeRule.{DecodeRule}
-use Rattle.softmath.specs.declared.DecodeRule.the-variants.{SumProduct}
-use Rattle.belief.specs.Rounds.{chosenCount, chosenBits}
-use Rattle.belief.specs.Chosen.{Chose}
+use Rattle.softmath.specs.declared.DecodeRule.the-variants.{SumProduct, ScaledMinSum, Ft8}
+use Rattle.belief.specs.Chosen.{Chose, toldBy}
 use Rattle.belief.specs.Graph.{cleared}
-use Rattle.decoders.specs.Decodes.{ruleOf, staircaseDecode, ft8Decode}
-use Rattle.decoders.specs.Calls.{softWithRefusals, ft8Refusals}
+use Rattle.belief.specs.declared.Decoded.{Decoded}
+use Rattle.decoders.specs.Decodes.{threeQuarters, staircaseRule, ft8Rule, ruleOf, staircaseDecode}
+use Rattle.decoders.specs.Calls.{Single, Answered, softWithRefusals, frameRefusals}
 
 -- ---- numbers
 
-pub values-else : (n : ℕ) → (n ≡ 1 → ⊥) → 512 ≡ codeOf n .k + codeOf n .m
-values-else zero h = refl
-values-else (suc zero) h = absurd (h refl)
-values-else (suc (suc n)) h = refl
+pub values-else : (n : ℕ) → (n ≡ 0 → ⊥) → (n ≡ 1 → ⊥) → 512 ≡ blockLength (codeOf n)
+values-else zero g h = absurd (g refl)
+values-else (suc zero) g h = absurd (h refl)
+values-else (suc (suc n)) g h = refl
 
-pub bits-else : (n : ℕ) → (n ≡ 0 → ⊥) → 384 ≡ codeOf n .k
-bits-else zero h = absurd (h refl)
-bits-else (suc zero) h = refl
-bits-else (suc (suc n)) h = refl
+pub bits-else : (n : ℕ) → (n ≡ 0 → ⊥) → (n ≡ 1 → ⊥) → 384 ≡ codeOf n .k
+bits-else zero g h = absurd (g refl)
+bits-else (suc zero) g h = absurd (h refl)
+bits-else (suc (suc n)) g h = refl
 
-pub rule-else : (n : ℕ) (scale : Float) → (n ≡ 1 → ⊥) → (n ≡ 2 → ⊥) → SumProduct ≡ ruleOf n scale
-rule-else zero scale a b = refl
-rule-else (suc zero) scale a b = absurd (a refl)
-rule-else (suc (suc zero)) scale a b = absurd (b refl)
-rule-else (suc (suc (suc n))) scale a b = refl
+pub house-rule : (n : ℕ) (scale : Float) → (n ≡ 0 → ⊥) → (n ≡ 1 → ⊥) → (n ≡ 2 → ⊥) → ScaledMinSum threeQuarters ≡ staircaseRule n scale
+house-rule zero scale a b c = absurd (a refl)
+house-rule (suc zero) scale a b c = absurd (b refl)
+house-rule (suc (suc zero)) scale a b c = absurd (c refl)
+house-rule (suc (suc (suc n))) scale a b c = refl
+
+pub rule-of-ft8 : (code rule : ℕ) (scale : Float) → 2 < code → ft8Rule rule ≡ ruleOf code rule scale
+rule-of-ft8 zero rule scale h = absurd (omega arith)
+rule-of-ft8 (suc zero) rule scale h = absurd (omega arith)
+rule-of-ft8 (suc (suc zero)) rule scale h = absurd (omega arith)
+rule-of-ft8 (suc (suc (suc n))) rule scale h = refl
+
+pub rule-of-staircase : (code rule : ℕ) (scale : Float) → code ≤ 2 → staircaseRule rule scale ≡ ruleOf code rule scale
+rule-of-staircase zero rule scale h = refl
+rule-of-staircase (suc zero) rule scale h = refl
+rule-of-staircase (suc (suc zero)) rule scale h = refl
+rule-of-staircase (suc (suc (suc n))) rule scale h = absurd (omega arith)
+
+pub unnegated : (n : ℕ) → 0 < n → SumProduct ≡ ft8Rule n
+unnegated zero h = absurd (omega arith)
+unnegated (suc n) h = refl
+
+pub own-step : (n : ℕ) → n ≤ 0 → Ft8 ≡ ft8Rule n
+own-step zero h = refl
+own-step (suc n) h = absurd (omega arith)
 
 -- the code with a number that equals another
-pub at-code : (code k : ℕ) → code ≡ k → (rule : DecodeRule) (llr : List Float) (limit n found : ℕ) (bits : List ℕ)
-    → Chose (staircaseDecode (codeOf k) rule llr) limit n found bits → Chose (staircaseDecode (codeOf code) rule llr) limit n found bits
-at-code code k e rule llr limit n found bits h = subst (λ (x : ℕ). Chose (staircaseDecode (codeOf x) rule llr) limit n found bits) (sym e) h
+pub at-code : (code k : ℕ) → code ≡ k → (rule : DecodeRule) (llr : List Float) (limit n : ℕ) (r : Decoded) (bits : List ℕ)
+    → Chose (staircaseDecode (codeOf k) rule llr) limit n r bits → Chose (staircaseDecode (codeOf code) rule llr) limit n r bits
+at-code code k e rule llr limit n r bits h = subst (λ (x : ℕ). Chose (staircaseDecode (codeOf x) rule llr) limit n r bits) (sym e) h
 
-pub length-at : (code k n : ℕ) → code ≡ k → n ≡ codeOf code .k + codeOf code .m → n ≡ codeOf k .k + codeOf k .m
-length-at code k n e h = subst (λ (x : ℕ). n ≡ codeOf x .k + codeOf x .m) e h
+pub length-at : (code k n : ℕ) → code ≡ k → n ≡ blockLength (codeOf code) → n ≡ blockLength (codeOf k)
+length-at code k n e h = subst (λ (x : ℕ). n ≡ blockLength (codeOf x)) e h
 
--- ---- accepted calls
+-- ---- refused and accepted calls
 
-pub soft-accepted : (code rule : ℕ) (scale : Float) (limit : ℕ) (llr : List Float) (bits : List ℕ) (work : List Float) (found : ℕ) (bits' : List ℕ) (work' : List Float) (r : DecodeRule)
-    → code < 3 → rule ≤ 3 → length llr ≡ codeOf code .k + codeOf code .m → length bits ≡ codeOf code .k → 3070 ≤ length work
-    → r ≡ ruleOf rule scale → Chose (staircaseDecode (codeOf code) r llr) limit (length bits) found bits' → work' ≡ cleared work
-    → (accepted found ≡ judged (softWithRefusals code rule llr bits work) (chosenCount (staircaseDecode (codeOf code) (ruleOf rule scale) llr) limit))
-    × ((bits' ≡ kept (softWithRefusals code rule llr bits work) bits (chosenBits (staircaseDecode (codeOf code) (ruleOf rule scale) llr) limit (codeOf code .k)))
-    × (work' ≡ kept (softWithRefusals code rule llr bits work) work (cleared work)))
-soft-accepted code rule scale limit llr bits work found bits' work' r c s n k w e h z =
-    let t = lt-ltb code 3 c in
-    let u = le-ltb 3 rule s in
-    let v = eq-eqb (length llr) (codeOf code .k + codeOf code .m) n in
-    let x = eq-eqb (length bits) (codeOf code .k) k in
-    let y = le-ltb (length work) 3070 w in
-    let g = rw (e, k) at h in
-    simp (t, u, v, x, y) (ap accepted (g .counted), (g .front, z))
+module _ (s : Single) where
+  pub turned-down : (n : ℕ) → verdict (s .refusals) ≡ refused n → Answered s (refused n) (s .bits) (s .work)
+  turned-down n e = record {
+    tells = sym (judged-refused (s .refusals) _ n e);
+    itsBits = sym (kept-refused (s .refusals) (s .bits) _ n e);
+    itsWork = sym (kept-refused (s .refusals) (s .work) _ n e);
+  }
 
-pub ft8-accepted : (limit : ℕ) (llr : List Float) (plain : List ℕ) (work : List Float) (found : ℕ) (plain' : List ℕ) (work' : List Float)
-    → length llr ≡ 174 → length plain ≡ 174 → 3070 ≤ length work
-    → Chose (ft8Decode llr) limit (length plain) found plain' → work' ≡ cleared work
-    → (accepted found ≡ judged (ft8Refusals llr plain work) (chosenCount (ft8Decode llr) limit))
-    × ((plain' ≡ kept (ft8Refusals llr plain work) plain (chosenBits (ft8Decode llr) limit 174)) × (work' ≡ kept (ft8Refusals llr plain work) work (cleared work)))
-ft8-accepted limit llr plain work found plain' work' n k w h z =
-    let v = eq-eqb (length llr) 174 n in
-    let x = eq-eqb (length plain) 174 k in
-    let y = le-ltb (length work) 3070 w in
-    let g = rw k at h in
-    simp (v, x, y) (ap accepted (g .counted), (g .front, z))
+  pub decoded : verdict (s .refusals) ≡ nothing → (r : Decoded) (bits : List ℕ) (work : List Float)
+      → Chose (s .decode) (s .limit) (s .size) r bits → work ≡ cleared (s .work) → Answered s (accepted (toldBy r)) bits work
+  decoded e r bits work h z = record {
+    tells = ap accepted (h .tells) ∙ sym (judged-accepted (s .refusals) _ e);
+    itsBits = h .front ∙ sym (kept-accepted (s .refusals) (s .bits) _ e);
+    itsWork = z ∙ sym (kept-accepted (s .refusals) (s .work) _ e);
+  }
+
+-- the lengths are right
+pub lengths-right : (n k : ℕ) (llr : List Float) (bits : List ℕ) (work : List Float) → length llr ≡ n → length bits ≡ k → 3070 ≤ length work
+    → verdict (frameRefusals n k llr bits work) ≡ nothing
+lengths-right n k llr bits work a b c = simp (eq-eqb (length llr) n a, eq-eqb (length bits) k b, le-ltb (length work) 3070 c)
+
+-- and so are the numbers
+pub soft-right : (code rule : ℕ) (llr : List Float) (bits : List ℕ) (work : List Float) → code < 3 → rule < 4
+    → length llr ≡ blockLength (codeOf code) → length bits ≡ codeOf code .k → 3070 ≤ length work → verdict (softWithRefusals code rule llr bits work) ≡ nothing
+soft-right code rule llr bits work c r a b w =
+    simp (lt-ltb code 3 c, le-ltb 4 rule (omega arith), ne-eqb rule 4 (λ e. omega arith)) (lengths-right (blockLength (codeOf code)) (codeOf code .k) llr bits work a b w)

@@ -4,7 +4,7 @@ use mathlib.Core.List.{List}
 use Prim.Native.Nat.{ℕ, _+_, _<_, _≤_}
 use native.Mathlib.Omega.{arith}
 use lib.ListN.{length}
-use Rattle.construction.specs.Codes.{Code}
+use Rattle.construction.specs.Codes.{Code, blockLength}
 use Rattle.tanner.specs.Flat.{offsets, joined, bitEdges}
 use Rattle.belief.specs.Graph.{Graph}
 use Rattle.belief.proofs.Laid.{graph-laid}
@@ -26,7 +26,7 @@ unfolding staircase.checks
 many c = checks-length (c .k) (c .m) (staircase.columns c)
 
 pub staircase-graph : (c : Code) (cs cb bs be : List ℕ) → cs ≡ offsets (staircase.checks c) → cb ≡ joined (staircase.checks c)
-    → bs ≡ offsets (bitEdges (c .k + c .m) (staircase.checks c)) → be ≡ joined (bitEdges (c .k + c .m) (staircase.checks c))
-    → c .m < 65536 → length cb ≤ 3070 → (n : ℕ) → n ≡ c .k + c .m → Graph cs cb bs be n
+    → bs ≡ offsets (bitEdges (blockLength c) (staircase.checks c)) → be ≡ joined (bitEdges (blockLength c) (staircase.checks c))
+    → c .m < 65536 → length cb ≤ 3070 → (n : ℕ) → n ≡ blockLength c → Graph cs cb bs be n
 staircase-graph c cs cb bs be s f e d few fits =
-    graph-laid (staircase.checks c) (c .k + c .m) cs cb bs be s f e d (omega (arith, many c)) fits (laid-flat c cs cb s f few .low)
+    graph-laid (staircase.checks c) (blockLength c) cs cb bs be s f e d (omega (arith, many c)) fits (laid-flat c cs cb s f few .low)

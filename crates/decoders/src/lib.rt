@@ -2,49 +2,89 @@
 pub mod codes;
 
 ghost use mathlib.Core.Path.{_≡_};
-ghost use mathlib.Core.List.{List, [], _∷_};
-ghost use Prim.Native.Nat.{_+_, _≤_, _<_};
+ghost use Prim.Native.Nat.{_≤_, _<_};
 ghost use lib.ListN.{length};
+ghost use Rattle.construction.specs.Codes.{blockLength};
 ghost use Rattle.staircase.specs.Codes.{codeOf};
 ghost use Rattle.belief.specs.Chosen.{Chose};
-ghost use Rattle.belief.specs.Rounds.{chosenCount, chosenBits};
 ghost use Rattle.belief.specs.Graph.{cleared};
-ghost use Rattle.refusal.specs.Outcome.{judged, kept};
-ghost use Rattle.decoders.specs.Decodes.{ruleOf, staircaseDecode, ft8Decode};
-ghost use Rattle.decoders.specs.Calls.{decodingOf, softWithRefusals, softRefusals, ft8Refusals};
+ghost use Rattle.decoders.specs.Decodes.{staircaseRule, ft8Rule, ruleOf, staircaseDecode};
+ghost use Rattle.decoders.specs.Calls.{decodingOf, Answered, softWith, soft, ft8Soft};
+use belief::Decoded;
+use construction::codes::N512R12;
+use construction::codes::N512R34;
+use construction::codes::N576R23;
 use refusal::Refusal;
 use softmath::DecodeRule;
 
-// The answer of a decoder.
+// The scale of the house default on the staircase codes.
+const HOUSE_SCALE: f32 = 0.75;
+
+// The answer of a decoder: what is told beside the bits.
 pub enum Decoding {
-    Count(u16),
+    Decoded(Decoded),
     Refused(Refusal),
 }
 
-// The rule with that number: any above 2 is sum-product.
-pub fn rule_of(rule: u32, scale: f32) -> DecodeRule
-    ensures { λ r. ⌜ r ≡ ruleOf rule scale ⌝ }
+// The check step of a staircase code under the rule with that number.
+fn staircase_rule(rule: u32, scale: f32) -> DecodeRule
+    ensures { λ r. ⌜ r ≡ staircaseRule rule scale ⌝ }
 {
+    if rule == 0 {
+        return DecodeRule::SumProduct;
+    }
     if rule == 1 {
         return DecodeRule::MinSum;
     }
     if rule == 2 {
         return DecodeRule::ScaledMinSum(scale);
     }
-    DecodeRule::SumProduct
+    DecodeRule::ScaledMinSum(HOUSE_SCALE)
 }
 
-// N and K of the staircase code with that number.
-pub fn values_of(code: u32) -> usize
-    ensures { λ r. ⌜ r ≡ codeOf code .k + codeOf code .m ⌝ }
+// The check step of (174,91) under the rule with that number.
+fn ft8_rule(rule: u32) -> DecodeRule
+    ensures { λ r. ⌜ r ≡ ft8Rule rule ⌝ }
 {
-    if code == 1 { 576 } else { 512 }
+    if rule > 0 {
+        return DecodeRule::SumProduct;
+    }
+    DecodeRule::Ft8
+}
+
+// The check step that a frame of the code is decoded by.
+pub fn rule_of(code: u32, rule: u32, scale: f32) -> DecodeRule
+    ensures { λ r. ⌜ r ≡ ruleOf code rule scale ⌝ }
+{
+    if code > 2 {
+        return ft8_rule(rule);
+    }
+    staircase_rule(rule, scale)
+}
+
+// N and K of the staircase code with that number: any above 1 is code 2.
+pub fn values_of(code: u32) -> usize
+    ensures { λ r. ⌜ r ≡ blockLength (codeOf code) ⌝ }
+{
+    if code == 0 {
+        return N512R12::N;
+    }
+    if code == 1 {
+        return N576R23::N;
+    }
+    N512R34::N
 }
 
 pub fn bits_of(code: u32) -> usize
     ensures { λ r. ⌜ r ≡ codeOf code .k ⌝ }
 {
-    if code == 0 { 256 } else { 384 }
+    if code == 0 {
+        return N512R12::K;
+    }
+    if code == 1 {
+        return N576R23::K;
+    }
+    N512R34::K
 }
 
 // A frame of the staircase code with that number, whose first bits go to `bits`.
@@ -55,9 +95,9 @@ pub fn decode_staircase(
     llr: &[f32],
     bits: &mut [u8],
     work: &mut [f32],
-) -> u16
+) -> Decoded
     requires { ⌜ code < 3 ⌝ }
-    requires { ⌜ length (now llr) ≡ codeOf code .k + codeOf code .m ⌝ }
+    requires { ⌜ length (now llr) ≡ blockLength (codeOf code) ⌝ }
     requires { ⌜ length (now bits) ≤ length (now llr) ⌝ }
     requires { ⌜ 3070 ≤ length (now work) ⌝ }
     ensures { λ r. ⌜ Chose (staircaseDecode (codeOf code) rule (now (llr .entry))) limit (length (now (bits .entry))) r (now (bits .exit)) ⌝ }
@@ -82,15 +122,17 @@ pub fn decode_soft_with(
     bits: &mut [u8],
     work: &mut [f32],
 ) -> Decoding
-    ensures { λ r. ⌜ decodingOf r ≡ judged (softWithRefusals code rule (now (llr .entry)) (now (bits .entry)) (now (work .entry))) (chosenCount (staircaseDecode (codeOf code) (ruleOf rule scale) (now (llr .entry))) limit) ⌝ }
-    ensures { λ _. ⌜ now (bits .exit) ≡ kept (softWithRefusals code rule (now (llr .entry)) (now (bits .entry)) (now (work .entry))) (now (bits .entry)) (chosenBits (staircaseDecode (codeOf code) (ruleOf rule scale) (now (llr .entry))) limit (codeOf code .k)) ⌝ }
-    ensures { λ _. ⌜ now (work .exit) ≡ kept (softWithRefusals code rule (now (llr .entry)) (now (bits .entry)) (now (work .entry))) (now (work .entry)) (cleared (now (work .entry))) ⌝ }
+    ensures { λ r. ⌜ Answered (softWith code rule scale limit (now (llr .entry)) (now (bits .entry)) (now (work .entry)))
+        (decodingOf r) (now (bits .exit)) (now (work .exit)) ⌝ }
 {
     if code >= 3 {
         return Decoding::Refused(Refusal::UnknownCode);
     }
-    if rule > 3 {
+    if rule > 4 {
         return Decoding::Refused(Refusal::UnknownRule);
+    }
+    if rule == 4 {
+        return Decoding::Refused(Refusal::RuleNotOfCode);
     }
     if llr.len() != values_of(code) {
         return Decoding::Refused(Refusal::InputLength);
@@ -98,10 +140,10 @@ pub fn decode_soft_with(
     if bits.len() != bits_of(code) {
         return Decoding::Refused(Refusal::OutputLength);
     }
-    if work.len() < 3070 {
+    if work.len() < belief::WORK {
         return Decoding::Refused(Refusal::WorkTooShort);
     }
-    Decoding::Count(decode_staircase(code, rule_of(rule, scale), limit, llr, bits, work))
+    Decoding::Decoded(decode_staircase(code, staircase_rule(rule, scale), limit, llr, bits, work))
 }
 
 // The same by sum-product, which is `decode_soft`.
@@ -112,27 +154,25 @@ pub fn decode_soft(
     bits: &mut [u8],
     work: &mut [f32],
 ) -> Decoding
-    ensures { λ r. ⌜ decodingOf r ≡ judged (softRefusals code (now (llr .entry)) (now (bits .entry)) (now (work .entry))) (chosenCount (staircaseDecode (codeOf code) DecodeRule.SumProduct (now (llr .entry))) limit) ⌝ }
-    ensures { λ _. ⌜ now (bits .exit) ≡ kept (softRefusals code (now (llr .entry)) (now (bits .entry)) (now (work .entry))) (now (bits .entry)) (chosenBits (staircaseDecode (codeOf code) DecodeRule.SumProduct (now (llr .entry))) limit (codeOf code .k)) ⌝ }
-    ensures { λ _. ⌜ now (work .exit) ≡ kept (softRefusals code (now (llr .entry)) (now (bits .entry)) (now (work .entry))) (now (work .entry)) (cleared (now (work .entry))) ⌝ }
+    ensures { λ r. ⌜ Answered (soft code limit (now (llr .entry)) (now (bits .entry)) (now (work .entry)))
+        (decodingOf r) (now (bits .exit)) (now (work .exit)) ⌝ }
 {
     decode_soft_with(code, 0, 0.0, limit, llr, bits, work)
 }
 
-// A (174,91) decode, all 174 bits.
+// A (174,91) decode by its own check step, all 174 bits.
 pub fn ldpc_decode_soft(llr: &[f32], limit: u16, plain: &mut [u8], work: &mut [f32]) -> Decoding
-    ensures { λ r. ⌜ decodingOf r ≡ judged (ft8Refusals (now (llr .entry)) (now (plain .entry)) (now (work .entry))) (chosenCount (ft8Decode (now (llr .entry))) limit) ⌝ }
-    ensures { λ _. ⌜ now (plain .exit) ≡ kept (ft8Refusals (now (llr .entry)) (now (plain .entry)) (now (work .entry))) (now (plain .entry)) (chosenBits (ft8Decode (now (llr .entry))) limit 174) ⌝ }
-    ensures { λ _. ⌜ now (work .exit) ≡ kept (ft8Refusals (now (llr .entry)) (now (plain .entry)) (now (work .entry))) (now (work .entry)) (cleared (now (work .entry))) ⌝ }
+    ensures { λ r. ⌜ Answered (ft8Soft (now (llr .entry)) limit (now (plain .entry)) (now (work .entry)))
+        (decodingOf r) (now (plain .exit)) (now (work .exit)) ⌝ }
 {
-    if llr.len() != 174 {
+    if llr.len() != ldpc::N {
         return Decoding::Refused(Refusal::InputLength);
     }
-    if plain.len() != 174 {
+    if plain.len() != ldpc::N {
         return Decoding::Refused(Refusal::OutputLength);
     }
-    if work.len() < 3070 {
+    if work.len() < belief::WORK {
         return Decoding::Refused(Refusal::WorkTooShort);
     }
-    Decoding::Count(codes::decode_ft8(limit, llr, plain, work))
+    Decoding::Decoded(codes::decode_ft8(DecodeRule::Ft8, limit, llr, plain, work))
 }

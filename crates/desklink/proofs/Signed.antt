@@ -24,3 +24,7 @@ minus-short n small = subst (SFits w32) (sym (minus n small)) (minus-fits n smal
 
 pub minus-read : (n : ℕ) → n < 2 ^ 16 → toZ w32 (ofZ w32 (pos 0 -ℤ toZ w32 n)) ≡ negℤ (pos n)
 minus-read n small = toZ-ofZ w32 _ (minus-short n small) ∙ minus n small
+
+-- what is stored is read back
+pub read-back : {z : ℤ} → SFits w32 z → toZ w32 (ofZ w32 z) ≡ z
+read-back {z} fits = toZ-ofZ w32 z fits

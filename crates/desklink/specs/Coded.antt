@@ -1,14 +1,45 @@
--- An answer as one signed number: a value or a count is itself, and a refusal is minus its number in document 01's table.
--- The two cannot be mistaken for each other: a value is never below 0, and a refusal's number is at least 1.
+-- An answer as numbers of C. The answer itself is one signed number: a value or a count as it is, and a refusal as minus its number in document 01's
+-- table; the two cannot be mistaken for each other, since a value is never below 0 and a refusal's number is at least 1. What more a call tells goes
+-- through a reference that is lent for it, and a refused call leaves that as it was.
+use mathlib.Core.Path.{_≡_}
 use Prim.Native.Nat.{ℕ}
 use lib.IntN.{ℤ, pos, negℤ}
 use Rattle.refusal.specs.Outcome.{Outcome, accepted, refused}
+use Rattle.tanner.specs.Checks.{Syndrome}
+use Rattle.belief.specs.Chosen.{Told}
+use Rattle.batch.specs.Calls.{placeOf}
+
+-- the signed number, of an accepted call the part `of` its value
+abbrev pub codedBy : {A : Type 0} → (A → ℕ) → Outcome A → ℤ
+codedBy of (accepted v) = pos (of v)
+codedBy of (refused n) = negℤ (pos n)
 
 abbrev pub coded : Outcome ℕ → ℤ
-coded (accepted v) = pos v
-coded (refused n) = negℤ (pos n)
+coded = codedBy (λ v. v)
 
 -- an accepted call that has no value beside what it writes answers 0
 abbrev pub codedUnit : Outcome Unit → ℤ
-codedUnit (accepted _) = pos 0
-codedUnit (refused n) = negℤ (pos n)
+codedUnit = codedBy (λ _. 0)
+
+-- a number lent for a part of the value: what it held before the call, and after it
+pub record Lent : Type 0 where
+  pub before : ℕ
+  pub after : ℕ
+
+abbrev pub lent : ℕ → ℕ → Lent
+lent before after = record { before = before; after = after }
+
+abbrev pub toldIn : {A : Type 0} → (A → ℕ) → Outcome A → ℕ → ℕ
+toldIn of (accepted v) before = of v
+toldIn of (refused n) before = before
+
+-- a count, with its first check ("65,535 for none", change request N8)
+pub record Counts (outcome : Outcome Syndrome) (n : ℤ) (first : Lent) : Type 0 where
+  pub itsCount : n ≡ codedBy (λ s. s .count) outcome
+  pub itsFirst : first .after ≡ toldIn (λ s. placeOf (s .first)) outcome (first .before)
+
+-- a decode: the count, the rounds run (N1) and the first check
+pub record Decodes (outcome : Outcome Told) (n : ℤ) (rounds first : Lent) : Type 0 where
+  pub itsCount : n ≡ codedBy (λ t. t .count) outcome
+  pub itsRounds : rounds .after ≡ toldIn (λ t. t .rounds) outcome (rounds .before)
+  pub itsFirst : first .after ≡ toldIn (λ t. placeOf (t .first)) outcome (first .before)

@@ -8,12 +8,6 @@ use lib.ListN.{length}
 use Rattle.refusal.specs.Outcome.{Outcome, accepted, refused, Condition, _when_}
 use Rattle.refusal.specs.Numbers.{numberOf}
 use Rattle.eighths.specs.Values.{isLeast, valueOf, passes, byteOf}
-use Rattle.eighths.specs.declared.Converted.{Converted}
-use Rattle.eighths.specs.declared.Converted.the-variants.{Done, Refused}
-
-abbrev pub convertedOf : Converted → Outcome Unit
-convertedOf Done = accepted tt
-convertedOf (Refused r) = refused (numberOf r)
 
 -- whether the test holds of some entry
 unfoldable pub some : {A : Type 0} → (A → Bool) → List A → Bool

@@ -4,15 +4,11 @@ ghost use mathlib.Core.Bool.{true, false, not};
 ghost use lib.Ieee.{lt};
 ghost use lib.ListN.{length};
 ghost use Rattle.refusal.specs.Outcome.{judged, kept};
+ghost use Rattle.refusal.specs.Answers.{statusOf};
 ghost use Rattle.eighths.specs.Values.{zero32, isLeast, valueOf, wholeEighths, minusZero, passes, byteOf};
-ghost use Rattle.eighths.specs.Calls.{convertedOf, some, bytesRefusals, valuesRefusals, valuesOf, bytesOf};
+ghost use Rattle.eighths.specs.Calls.{some, bytesRefusals, valuesRefusals, valuesOf, bytesOf};
 use refusal::Refusal;
-
-// The answer of a conversion.
-pub enum Converted {
-    Done,
-    Refused(Refusal),
-}
+use refusal::Status;
 
 // ---- from bytes
 
@@ -55,18 +51,18 @@ fn write_values(bytes: &[i8], positive_is_one: bool, values: &mut [f32])
 }
 
 // Each byte times 0.125, negated for the models that count positive as 1.
-pub fn values_of_bytes(bytes: &[i8], positive_is_one: bool, values: &mut [f32]) -> Converted
-    ensures { λ r. ⌜ convertedOf r ≡ judged (bytesRefusals (now (bytes .entry)) (now (values .entry))) tt ⌝ }
+pub fn values_of_bytes(bytes: &[i8], positive_is_one: bool, values: &mut [f32]) -> Status
+    ensures { λ r. ⌜ statusOf r ≡ judged (bytesRefusals (now (bytes .entry)) (now (values .entry))) tt ⌝ }
     ensures { λ _. ⌜ now (values .exit) ≡ kept (bytesRefusals (now (bytes .entry)) (now (values .entry))) (now (values .entry)) (valuesOf «positive_is_one» (now (bytes .entry))) ⌝ }
 {
     if bytes.len() != values.len() {
-        return Converted::Refused(Refusal::InputLength);
+        return Status::Refused(Refusal::InputLength);
     }
     if some_least(bytes) {
-        return Converted::Refused(Refusal::ByteOutOfRange);
+        return Status::Refused(Refusal::ByteOutOfRange);
     }
     write_values(bytes, positive_is_one, values);
-    Converted::Done
+    Status::Done
 }
 
 // ---- from values
@@ -149,16 +145,16 @@ fn write_bytes(values: &[f32], positive_is_one: bool, bytes: &mut [i8])
 }
 
 // Eight times each value, negated for the models that count positive as 1.
-pub fn bytes_of_values(values: &[f32], positive_is_one: bool, bytes: &mut [i8]) -> Converted
-    ensures { λ r. ⌜ convertedOf r ≡ judged (valuesRefusals (now (values .entry)) (now (bytes .entry))) tt ⌝ }
+pub fn bytes_of_values(values: &[f32], positive_is_one: bool, bytes: &mut [i8]) -> Status
+    ensures { λ r. ⌜ statusOf r ≡ judged (valuesRefusals (now (values .entry)) (now (bytes .entry))) tt ⌝ }
     ensures { λ _. ⌜ now (bytes .exit) ≡ kept (valuesRefusals (now (values .entry)) (now (bytes .entry))) (now (bytes .entry)) (bytesOf «positive_is_one» (now (values .entry))) ⌝ }
 {
     if values.len() != bytes.len() {
-        return Converted::Refused(Refusal::InputLength);
+        return Status::Refused(Refusal::InputLength);
     }
     if some_not_passing(values) {
-        return Converted::Refused(Refusal::NotEighths);
+        return Status::Refused(Refusal::NotEighths);
     }
     write_bytes(values, positive_is_one, bytes);
-    Converted::Done
+    Status::Done
 }

@@ -1,9 +1,8 @@
 // Replays published FT8 codewords, made by `ft8code` of Debian's package wsjtx: a line of the file stdin is one of crates/ft8_vectors and has
 // the 77 source bits, the 14 checksum bits, the 83 parity bits and the message. The program packs the 77 bits alone, appends the checksum,
 // encodes, and prints the codeword's 174 bits. The file stdout holds the line's first three fields, one behind the other.
-use crc::Added;
-use ldpc::Encoded;
 use libc::STDOUT_FILENO;
+use refusal::Status;
 
 // The payload's ten bytes of the line's first 77 digits.
 fn pack(line: &[u8; 215], payload: &mut [u8; 10]) {
@@ -38,10 +37,10 @@ fn print_codeword(codeword: &[u8; 22]) {
 fn encode(block: &[u8; 12]) {
     let mut codeword = [0xFFu8; 22];
     match ldpc::ldpc_encode(block, &mut codeword) {
-        Encoded::Done => {
+        Status::Done => {
             print_codeword(&codeword);
         }
-        Encoded::Refused(_) => {
+        Status::Refused(_) => {
             io::write_all(STDOUT_FILENO, b"refused\n");
         }
     }
@@ -50,10 +49,10 @@ fn encode(block: &[u8; 12]) {
 fn append_and_encode(payload: &[u8; 10]) {
     let mut block = [0u8; 12];
     match crc::ft8_add_crc(payload, &mut block) {
-        Added::Done => {
+        Status::Done => {
             encode(&block);
         }
-        Added::Refused(_) => {
+        Status::Refused(_) => {
             io::write_all(STDOUT_FILENO, b"refused\n");
         }
     }

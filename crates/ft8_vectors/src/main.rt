@@ -1,9 +1,9 @@
 // Replays published FT8 vectors, made by `ft8code` of Debian's package wsjtx with tools/ft8_vectors.py: each line of the file stdin
 // has the 77 source bits, the 14 checksum bits, the 83 parity bits and the message. The program packs the 77 bits, appends the
 // checksum, and prints the payload's bits out of the block and the checksum read back from it: the line's first two fields.
-use crc::Added;
-use crc::Checksum;
 use libc::STDOUT_FILENO;
+use refusal::Answer;
+use refusal::Status;
 ghost use mathlib.Core.Path.{_≡_};
 ghost use Prim.Native.Nat.{_≤_, _<_};
 ghost use lib.ListN.{length};
@@ -72,13 +72,13 @@ fn print_payload(block: &[u8])
     print_low_bits(block[9] >> 3, 5);
 }
 
-fn print_checksum(c: Checksum) {
+fn print_checksum(c: Answer) {
     match c {
-        Checksum::Value(v) => {
+        Answer::Value(v) => {
             print_low_bits(((v >> 8) % 64) as u8, 6);
             print_low_bits((v % 256) as u8, 8);
         }
-        Checksum::Refused(_) => {
+        Answer::Refused(_) => {
             io::write_all(STDOUT_FILENO, b"refused");
         }
     }
@@ -92,10 +92,10 @@ fn replay(line: &[u8])
     let mut block = [0u8; 12];
     pack(line, &mut payload);
     match crc::ft8_add_crc(&payload, &mut block) {
-        Added::Done => {
+        Status::Done => {
             print_payload(&block);
         }
-        Added::Refused(_) => {
+        Status::Refused(_) => {
             io::write_all(STDOUT_FILENO, b"refused");
         }
     }

@@ -1,17 +1,19 @@
 -- The tables agree: the test is computed once, and what it says of each entry and each edge is read off it. Assumes nothing.
-use mathlib.Core.Path.{_≡_, refl, sym, ap, _∙_}
+use mathlib.Core.Path.{_≡_, refl, sym, ap, ap₂, _∙_}
 use mathlib.Core.Bool.{Bool, true, false, cond, _&&_, Bool·beq}
-use mathlib.Core.List.{List, [], _∷_, _++_}
+use mathlib.Core.List.{List, [], _∷_, _++_, map, map-append}
 use Prim.Native.Nat.{ℕ, zero, suc, pred, _+_, _<_, _≤_}
 use native.Mathlib.Nat.{add-zero, add-suc, suc-add, zero-add}
 use native.Mathlib.Omega.{arith}
-use borrow.Author.Tests.{ltb-true, eqb-true, eq-eqb, ne-eqb}
+use borrow.Author.Tests.{ltb-true, lt-ltb, le-ltb, eqb-true, eq-eqb, ne-eqb}
 use lib.Dec.{eqb, ltb}
-use lib.ListN.{getD, replicate}
+use lib.ListN.{length, getD, replicate}
 use Rattle.tanner.specs.Checks.{Checks}
+use Rattle.tanner.specs.Flat.{joined, places}
+use Rattle.tanner.proofs.Places.{places-append}
 use Rattle.ldpc.specs.Tables.{nm, numRows, mn}
 use Rattle.ldpc.specs.Code174.{rowsOfSeven, checks}
-use Rattle.ldpc.specs.Agreement.{each, same, times, listing, nmAt, mnAt, mnRow, rowHolds, positionHolds, tablesAgree, Agreed}
+use Rattle.ldpc.specs.Agreement.{each, same, times, listing, checkOfEdge, nmAt, mnAt, mnRow, rowHolds, positionHolds, tablesAgree, Agreed}
 use Rattle.ldpc.proofs.Tests.{and-left, and-right, each-at, same-lists, beq-same}
 
 -- ---- the test, computed over the whole tables
@@ -52,6 +54,40 @@ times-listing p c zero (r ∷ rs) =
 times-listing p c (suc i) (r ∷ rs) =
     rw (times-append (c + suc i) (replicate (times p r) c) (listing p (suc c) rs), times-other (c + suc i) c (times p r) (λ e. omega arith))
     (rw (zero-add, add-suc, ← suc-add) (times-listing p (suc c) i rs))
+
+-- ---- a list of checks: the edges at which p stands, in order, are those of the checks that list p
+
+-- where f gives c at each place of a row, it gives c as often as the row lists p
+row-edges : (p c a : ℕ) (r : List ℕ) (f : ℕ → ℕ) → ((e : ℕ) → a ≤ e → e < a + length r → f e ≡ c) → map f (places p a r) ≡ replicate (times p r) c
+unfolding places times
+row-edges p c a [] f h = refl
+row-edges p c a (q ∷ r) f h = by (eqb q p) (row-edges p c (suc a) r f (λ e l u. h e (omega arith) (omega arith)))
+  where
+    by : (t : Bool) → map f (places p (suc a) r) ≡ replicate (times p r) c
+        → map f (cond t (a ∷ places p (suc a) r) (places p (suc a) r)) ≡ replicate (cond t 1 0 + times p r) c
+    by true ih = rw (h a (omega arith) (omega arith), ih, suc-add, zero-add)
+    by false ih = rw zero-add ih
+
+-- two functions that agree from a on give the same over the places from a on
+same-from : (p a : ℕ) (l : List ℕ) (f g : ℕ → ℕ) → ((e : ℕ) → a ≤ e → f e ≡ g e) → map f (places p a l) ≡ map g (places p a l)
+unfolding places
+same-from p a [] f g h = refl
+same-from p a (q ∷ l) f g h = by (eqb q p) (same-from p (suc a) l f g (λ e u. h e (omega arith)))
+  where
+    by : (t : Bool) → map f (places p (suc a) l) ≡ map g (places p (suc a) l)
+        → map f (cond t (a ∷ places p (suc a) l) (places p (suc a) l)) ≡ map g (cond t (a ∷ places p (suc a) l) (places p (suc a) l))
+    by true ih = rw (h a (omega arith), ih)
+    by false ih = ih
+
+edges-listed : (p c a : ℕ) (rs : Checks) → map (checkOfEdge c a rs) (places p a (joined rs)) ≡ listing p c rs
+unfolding joined places checkOfEdge listing
+edges-listed p c a [] = refl
+edges-listed p c a (r ∷ rs) =
+    let f = checkOfEdge c a (r ∷ rs) in
+    let next = a + length r in
+    rw (places-append p a r (joined rs), map-append)
+    (ap₂ _++_ (row-edges p c a r f (λ e l u. simp (lt-ltb e next u)))
+    (same-from p next (joined rs) f (checkOfEdge (suc c) next rs) (λ e u. simp (le-ltb e next u)) ∙ edges-listed p (suc c) next rs))
 
 -- ---- three that ascend hold none twice
 
@@ -138,6 +174,7 @@ agreed = record {
   entries = entry;
   rising = rises;
   order = listed;
+  heard = λ p h. edges-listed p 0 0 checks ∙ listed p h;
   edge = edge-at;
   once = once-at;
 }

@@ -1,6 +1,6 @@
 -- The (P) cases of the (174,91) code's encoding and counting hold: by computation.
 use mathlib.Core.Path.{refl}
-use Rattle.crc.specs.Bits.{bitsOf, bits, numberAfter, packed}
+use Rattle.bits.specs.Bits.{bitsOf, bits, numberAfter, packed}
 use Rattle.crc.specs.Cases.{Holds}
 use Rattle.tanner.specs.Checks.{xorFrom, countBytes}
 use Rattle.ldpc.specs.Cases.{codeCases}

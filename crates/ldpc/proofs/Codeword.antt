@@ -10,8 +10,8 @@ use borrow.Author.Tests.{lt-ltb, le-ltb, eq-eqb, ne-eqb}
 use lib.Bits.{bitOr, or-shifted}
 use lib.ListN.{length, getD, take, drop, replicate, length-append, length-take, List·getD-append, List·getD-eq-default, take-append-drop, drop-of-length-le}
 use lib.Seq.{take-at, drop-at, drop-append-add, getD-take, drop-cons, length-take-le, drop-drop, take-all}
-use Rattle.crc.specs.Bits.{bitsOf, bits, numberAfter, number, packed}
-use Rattle.crc.proofs.Digits.{Bytes, bits-length, bits-append, bitsOf-split, number-bits, number-append, packed-bits}
+use Rattle.bits.specs.Bits.{bitsOf, bits, numberAfter, number, packed}
+use Rattle.bits.proofs.Digits.{Bytes, bits-length, bits-append, bitsOf-split, number-bits, number-append, packed-bits}
 use Rattle.ldpc.specs.Bytes.{parityAt, gathered, codeByte}
 use Rattle.ldpc.specs.Encoding.{parityBits, encodeBits, codewordOf}
 use Rattle.ldpc.specs.Tables.{generator}

@@ -9,7 +9,7 @@ use native.Mathlib.Omega.{arith}
 use lib.Dec.{ltb}
 use lib.ListN.{length, getD, take, drop, take-append-drop, drop-of-length-le}
 use lib.Seq.{drop-cons, drop-at, getD-drop, drop-drop, length-take-le}
-use Rattle.crc.specs.Bits.{bitsOf, bits}
+use Rattle.bits.specs.Bits.{bitsOf, bits}
 use Rattle.tanner.specs.Checks.{Word, Checks, parity, count}
 use Rattle.tanner.specs.Flat.{Below}
 use Rattle.ldpc.specs.Tables.{generator, nm, numRows}

@@ -3,15 +3,16 @@
 use mathlib.Core.Path.{_≡_, ap, _∙_}
 use mathlib.Core.List.{List}
 use Prim.Native.Nat.{ℕ}
-use Rattle.tanner.specs.Checks.{Word, Checks, count, countBytes, countMasked}
+use Rattle.tanner.specs.Checks.{Word, Checks, count, countBytes, syndromeOfBytes, syndromeMasked}
 use Rattle.tanner.specs.Flat.{Below, rowsOf}
-use Rattle.tanner.proofs.Count.{bits-count, byte-count}
+use Rattle.tanner.proofs.Count.{bits-count}
+use Rattle.tanner.proofs.First.{byte-syndrome}
 use Rattle.ldpc.specs.Code174.{checks}
 use Rattle.ldpc.proofs.Arrays.{checkStart, checkBits}
 use Rattle.ldpc.proofs.Graph.{laid}
 
-pub bytes-counted : (bytes : List ℕ) (n : ℕ) → Below 256 bytes → n ≡ countMasked 255 (rowsOf checkStart checkBits) bytes → n ≡ countBytes checks bytes
-bytes-counted bytes n low e = e ∙ ap (λ (cs : Checks). countMasked 255 cs bytes) laid ∙ byte-count checks bytes low
+pub bytes-counted : (bytes : List ℕ) → Below 256 bytes → syndromeMasked 255 (rowsOf checkStart checkBits) bytes ≡ syndromeOfBytes checks bytes
+bytes-counted bytes low = ap (λ (cs : Checks). syndromeMasked 255 cs bytes) laid ∙ byte-syndrome checks bytes low
 
 pub bits-counted : (w : Word) → Below 2 w → countBytes checks w ≡ count checks w
 bits-counted w low = bits-count checks w low

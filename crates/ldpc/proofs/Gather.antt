@@ -10,8 +10,8 @@ use lib.Bits.{bitOr, or-shifted}
 use lib.ListN.{length, take, drop, replicate, length-drop}
 use lib.Pow.{pow-mono}
 use lib.Seq.{drop-drop, length-take-le}
-use Rattle.crc.specs.Bits.{bits, numberAfter, number}
-use Rattle.crc.proofs.Digits.{number-append}
+use Rattle.bits.specs.Bits.{bits, numberAfter, number}
+use Rattle.bits.proofs.Digits.{number-append}
 use Rattle.ldpc.specs.Bytes.{byteParity, mixed, parityAt, gathered}
 use Rattle.ldpc.specs.Encoding.{under, rowsOfTwelve}
 use Rattle.ldpc.proofs.Parity.{byte-bit, row-parity, under-front}

@@ -9,9 +9,10 @@ use native.Mathlib.Omega.{arith}
 use lib.ListN.{length, getD, take, drop, replicate, length-append, length-map, length-drop, take-append-drop}
 use lib.Pow.{shr-shr}
 use lib.Seq.{take-at, drop-append-le, length-take-le, take-all}
-use Rattle.crc.specs.Bits.{bitsOf, bits, numberAfter, number, packed}
-use Rattle.crc.proofs.Digits.{Bytes, bits-are, bits-length, number-append, packed-bits}
-use Rattle.crc.proofs.Division.{AreBits, none, more, areBits-append, areBits-take, zeros-are}
+use Rattle.bits.specs.Bits.{bitsOf, bits, numberAfter, number, packed}
+use Rattle.bits.proofs.Digits.{Bytes, bits-are, bits-length, number-append, packed-bits}
+use Rattle.bits.proofs.AreBits.{AreBits, none, more, areBits-append, areBits-take, zeros-are}
+use Rattle.bits.proofs.Packed.{unpacked, packed-bytes}
 use Rattle.tanner.specs.Checks.{Word}
 use Rattle.tanner.specs.Flat.{Below}
 use Rattle.ldpc.specs.Encoding.{under, rowsOfTwelve, parityBits, encodeBits, codewordOf}
@@ -21,47 +22,6 @@ use Rattle.ldpc.specs.Codewords.{Codeword, Packed, wordOf, messageOf, Co
 use Rattle.ldpc.proofs.Parity.{under-bit}
 use Rattle.ldpc.proofs.Span.{Row}
 use Rattle.ldpc.proofs.Codewords.{zero-count-encoded, encoded-zero-count}
-
--- ---- bits packed and unpacked
-
-number-above : {bs : List ℕ} (a : ℕ) → AreBits bs → numberAfter a bs / 2 ^ length bs ≡ a
-unfolding numberAfter
-number-above a none = omega arith
-number-above a (more {b = b} {bs = bs} h hs) =
-    let n = numberAfter (a * 2 + b) bs in
-    let half : (a * 2 + b) / 2 ^ 1 ≡ a = omega arith in
-    ap (λ (k : ℕ). n / 2 ^ k) (sym (add-one (length bs))) ∙ sym (shr-shr n (length bs) 1) ∙ ap (λ (x : ℕ). x / 2 ^ 1) (number-above (a * 2 + b) hs) ∙ half
-
-bits-number : {bs : List ℕ} (a : ℕ) → AreBits bs → bitsOf (length bs) (numberAfter a bs) ≡ bs
-unfolding bitsOf numberAfter
-bits-number a none = refl
-bits-number a (more {b = b} {bs = bs} h hs) =
-    let first : (a * 2 + b) % 2 ≡ b = omega arith in
-    ap₂ (λ (x : ℕ) (l : List ℕ). x ∷ l) (ap (λ (x : ℕ). x % 2) (number-above (a * 2 + b) hs) ∙ first) (bits-number (a * 2 + b) hs)
-
-drop-are : (n : ℕ) {bs : List ℕ} → AreBits bs → AreBits (drop n bs)
-drop-are zero h = h
-drop-are (suc n) none = none
-drop-are (suc n) (more h hs) = drop-are n hs
-
-pub unpacked : (n : ℕ) (bs : List ℕ) → length bs ≡ 8 * n → AreBits bs → bits (packed n bs) ≡ bs
-unfolding packed bits
-unpacked zero [] e h = refl
-unpacked zero (b ∷ bs) e h = absurd (omega arith)
-unpacked (suc n) bs e h =
-    let eight : length (take 8 bs) ≡ 8 = length-take-le 8 bs (omega arith) in
-    let byte : bitsOf 8 (number (take 8 bs)) ≡ take 8 bs = rw eight at (bits-number 0 (areBits-take 8 h)) in
-    let rest = unpacked n (drop 8 bs) (simp length-drop (omega arith)) (drop-are 8 h) in
-    ap₂ (λ (xs ys : List ℕ). xs ++ ys) byte rest ∙ take-append-drop 8 bs
-
-packed-bytes : (n : ℕ) (bs : List ℕ) → length bs ≡ 8 * n → AreBits bs → Bytes (packed n bs)
-unfolding packed
-packed-bytes zero bs e h i = omega arith
-packed-bytes (suc n) bs e h zero =
-    let eight : length (take 8 bs) ≡ 8 = length-take-le 8 bs (omega arith) in
-    let above : number (take 8 bs) / 2 ^ 8 ≡ 0 = rw eight at (number-above 0 (areBits-take 8 h)) in
-    omega (arith, above)
-packed-bytes (suc n) bs e h (suc i) = packed-bytes n (drop 8 bs) (simp length-drop (omega arith)) (drop-are 8 h) i
 
 -- ---- words of bits, in both forms
 
@@ -88,13 +48,13 @@ parities-are m [] = none
 parities-are m (r ∷ rs) = more (under-bit r m) (parities-are m rs)
 
 module _ (front : List ℕ) (size : length front ≡ 91) where
-  encoding-length : length (encodeBits front) ≡ 174
+  pub encoding-length : length (encodeBits front) ≡ 174
   unfolding encodeBits parityBits
   encoding-length =
       let rows = rowsOfTwelve 83 generator in
       length-append front (parityBits front) ∙ omega (arith, length-map rows (λ (row : Row). under row front), rows-length 83 generator)
 
-  encoding-front : take 91 (encodeBits front) ≡ front
+  pub encoding-front : take 91 (encodeBits front) ≡ front
   unfolding encodeBits
   encoding-front = take-at front (parityBits front) 91 size
 

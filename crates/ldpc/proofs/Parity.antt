@@ -11,7 +11,7 @@ use lib.Bits.{bitAnd, bitXor, and-shr, and-mod, xor-shr, xor-add-and}
 use lib.Dec.{eqb}
 use lib.ListN.{length, getD, take, drop, replicate, drop-of-length-le}
 use lib.Seq.{drop-cons}
-use Rattle.crc.specs.Bits.{bitsOf, bits}
+use Rattle.bits.specs.Bits.{bitsOf, bits}
 use Rattle.ldpc.specs.Agreement.{each}
 use Rattle.ldpc.specs.Bytes.{odd, byteParity, mixed}
 use Rattle.ldpc.specs.Encoding.{under}

@@ -2,11 +2,12 @@
 -- `NUM_ROWS` and `MN` agree, each edge in both, is tested once over all 522 edges, and the test's rule is proved from it.")
 use mathlib.Core.Path.{_≡_}
 use mathlib.Core.Bool.{Bool, true, false, cond, _&&_, Bool·beq}
-use mathlib.Core.List.{List, [], _∷_, _++_}
+use mathlib.Core.List.{List, [], _∷_, _++_, map}
 use Prim.Native.Nat.{ℕ, zero, suc, pred, _+_, _*_, _<_, _≤_}
 use lib.Dec.{eqb, ltb}
-use lib.ListN.{getD, replicate}
+use lib.ListN.{length, getD, replicate}
 use Rattle.tanner.specs.Checks.{Checks}
+use Rattle.tanner.specs.Flat.{joined, places}
 use Rattle.ldpc.specs.Tables.{nm, numRows, mn}
 use Rattle.ldpc.specs.Code174.{checks}
 
@@ -30,6 +31,11 @@ times x (y ∷ ys) = cond (eqb y x) 1 0 + times x ys
 unfoldable pub listing : ℕ → ℕ → Checks → List ℕ
 listing p c [] = []
 listing p c (r ∷ rs) = replicate (times p r) c ++ listing p (suc c) rs
+
+-- the check of an edge, where edges are numbered check by check, in row order; the first check is number c, and its first edge is number a
+unfoldable pub checkOfEdge : ℕ → ℕ → Checks → ℕ → ℕ
+checkOfEdge c a [] e = c
+checkOfEdge c a (r ∷ rs) e = cond (ltb e (a + length r)) c (checkOfEdge (suc c) (a + length r) rs e)
 
 -- entry i of row c of `NM`, and entry k of position p's row of `MN`
 abbrev pub nmAt : ℕ → ℕ → ℕ
@@ -65,6 +71,8 @@ pub record Agreed : Type 0 where
   pub rising : (p : ℕ) → p < 174 → (0 < mnAt p 0) × (mnAt p 0 < mnAt p 1) × (mnAt p 1 < mnAt p 2) × (mnAt p 2 ≤ 83)
   -- the k-th check that lists position p is `MN`'s k-th, and there are no more
   pub order : (p : ℕ) → p < 174 → listing p 0 checks ≡ mnRow p
+  -- the edges over which the decoder adds position p's answers (`heard` of belief/specs/Rounds) are those of its checks "in `MN` order"
+  pub heard : (p : ℕ) → p < 174 → map (checkOfEdge 0 0 checks) (places p 0 (joined checks)) ≡ mnRow p
   -- each edge is in both: check c lists position p as often as position p's row of `MN` lists check c, and that is once at most
   pub edge : (p : ℕ) → p < 174 → (c : ℕ) → times p (getD checks c []) ≡ times c (mnRow p)
   pub once : (p : ℕ) → p < 174 → (c : ℕ) → times p (getD checks c []) ≤ 1

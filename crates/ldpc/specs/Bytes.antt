@@ -5,7 +5,7 @@ use Prim.Native.Nat.{ℕ, zero, suc, _+_, _-_, _*_, _%_, _^_}
 use lib.Bits.{bitAnd, bitOr, bitXor}
 use lib.Dec.{eqb, ltb}
 use lib.ListN.{getD, take, drop}
-use Rattle.crc.specs.Bits.{bitsOf}
+use Rattle.bits.specs.Bits.{bitsOf}
 
 -- whether an odd number of bits are 1
 unfoldable pub odd : List ℕ → ℕ

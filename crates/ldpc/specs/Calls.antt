@@ -6,19 +6,6 @@ use lib.Dec.{eqb}
 use lib.ListN.{length, getD}
 use Rattle.refusal.specs.Outcome.{Outcome, accepted, refused, Condition, _when_}
 use Rattle.refusal.specs.Numbers.{numberOf}
-use Rattle.ldpc.specs.declared.Encoded.{Encoded}
-use Rattle.ldpc.specs.declared.Encoded.the-variants as encoded
-use Rattle.ldpc.specs.declared.Count.{Count}
-use Rattle.ldpc.specs.declared.Count.the-variants as count
-
--- a written codeword has no value beside it
-abbrev pub encodedOf : Encoded → Outcome Unit
-encodedOf encoded.Done = accepted tt
-encodedOf (encoded.Refused r) = refused (numberOf r)
-
-abbrev pub countOf : Count → Outcome ℕ
-countOf (count.Value n) = accepted n
-countOf (count.Refused r) = refused (numberOf r)
 
 -- "input not its fixed length (.. (174,91) 12 bytes ..)", "(174,91) message has a set bit among the low five of byte 11",
 -- "an output not exactly its length"

@@ -3,7 +3,7 @@ use mathlib.Core.Path.{_≡_}
 use mathlib.Core.List.{List, _++_}
 use Prim.Native.Nat.{ℕ, _%_, _<_}
 use lib.ListN.{length, getD, take, replicate}
-use Rattle.crc.specs.Bits.{bits, packed}
+use Rattle.bits.specs.Bits.{bits, packed}
 use Rattle.tanner.specs.Checks.{Word, count}
 use Rattle.tanner.specs.Flat.{Below}
 use Rattle.ldpc.specs.Code174.{checks}

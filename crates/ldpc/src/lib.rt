@@ -1,29 +1,32 @@
 // The (174,91) LDPC code of FT8: its tables, encoding, and the count of unsatisfied checks.
 use refusal::Refusal;
+use refusal::Status;
+use tanner::Counting;
 ghost use mathlib.Core.Path.{_≡_};
 ghost use Prim.Native.Nat.{ℕ, _+_, _*_, _≤_, _<_};
 ghost use lib.ListN.{length, getD};
 ghost use Rattle.refusal.specs.Outcome.{judged, kept};
-ghost use Rattle.tanner.specs.Checks.{countBytes};
+ghost use Rattle.refusal.specs.Answers.{statusOf};
+ghost use Rattle.tanner.specs.Checks.{syndromeOfBytes};
+ghost use Rattle.tanner.specs.Found.{countingOf};
 ghost use Rattle.ldpc.specs.Bytes.{byteParity, mixed, gathered, codeByte};
-ghost use Rattle.ldpc.specs.Calls.{encodedOf, countOf, encodeRefusals, countRefusals};
+ghost use Rattle.ldpc.specs.Calls.{encodeRefusals, countRefusals};
 ghost use Rattle.ldpc.specs.Code174.{checks};
 ghost use Rattle.ldpc.specs.Encoding.{codewordOf};
 ghost use Rattle.ldpc.specs.Tables.{nm, numRows, mn};
 
 pub mod tables;
 
-// The answer of a call that writes a codeword.
-pub enum Encoded {
-    Done,
-    Refused(Refusal),
-}
+// The code's size: a word's bits, a message's bits, the checks; and the bytes of a packed word and of a packed message.
+pub const N: usize = 174;
 
-// The answer of a call that counts unsatisfied checks.
-pub enum Count {
-    Value(u16),
-    Refused(Refusal),
-}
+pub const K: usize = 91;
+
+pub const M: usize = 83;
+
+pub const N_BYTES: usize = 22;
+
+pub const K_BYTES: usize = 12;
 
 // An entry of NM, 7 a check.
 pub fn nm_entry(i: usize) -> u8
@@ -118,29 +121,29 @@ fn fill(generator: &[u8], message: &[u8], codeword: &mut [u8])
     }
 }
 
-pub fn ldpc_encode(message: &[u8], codeword: &mut [u8]) -> Encoded
-    ensures { λ r. ⌜ encodedOf r ≡ judged (encodeRefusals (now (message .entry)) (now (codeword .entry))) tt ⌝ }
+pub fn ldpc_encode(message: &[u8], codeword: &mut [u8]) -> Status
+    ensures { λ r. ⌜ statusOf r ≡ judged (encodeRefusals (now (message .entry)) (now (codeword .entry))) tt ⌝ }
     ensures { λ _. ⌜ now (codeword .exit) ≡ kept (encodeRefusals (now (message .entry)) (now (codeword .entry))) (now (codeword .entry)) (codewordOf (now (message .entry))) ⌝ }
 {
-    if message.len() != 12 {
-        return Encoded::Refused(Refusal::InputLength);
+    if message.len() != K_BYTES {
+        return Status::Refused(Refusal::InputLength);
     }
     if message[11] % 32 != 0 {
-        return Encoded::Refused(Refusal::MessageSlack);
+        return Status::Refused(Refusal::MessageSlack);
     }
-    if codeword.len() != 22 {
-        return Encoded::Refused(Refusal::OutputLength);
+    if codeword.len() != N_BYTES {
+        return Status::Refused(Refusal::OutputLength);
     }
     fill(&tables::GENERATOR, message, codeword);
-    Encoded::Done
+    Status::Done
 }
 
-// How many checks have bytes whose XOR is not zero.
-pub fn ldpc_count_errors(hard: &[u8]) -> Count
-    ensures { λ r. ⌜ countOf r ≡ judged (countRefusals (now (hard .entry))) (countBytes checks (now (hard .entry))) ⌝ }
+// How many checks have bytes whose XOR is not zero, and the first of them.
+pub fn ldpc_count_errors(hard: &[u8]) -> Counting
+    ensures { λ r. ⌜ countingOf r ≡ judged (countRefusals (now (hard .entry))) (syndromeOfBytes checks (now (hard .entry))) ⌝ }
 {
-    if hard.len() != 174 {
-        return Count::Refused(Refusal::InputLength);
+    if hard.len() != N {
+        return Counting::Refused(Refusal::InputLength);
     }
-    Count::Value(tanner::count_masked(&tables::CHECK_START, &tables::CHECK_BITS, hard, 255))
+    Counting::Counted(tanner::counted_masked(&tables::CHECK_STARTS, &tables::CHECK_BITS, hard, 255))
 }

@@ -2199,7 +2199,7 @@ pub const MN: [u8; 522] = [
 ];
 
 // Where each check's positions start in CHECK_BITS, and the end of the last.
-pub const CHECK_START: [u16; 84] = [
+pub const CHECK_STARTS: [u16; 84] = [
     0,
     7,
     13,
@@ -2813,7 +2813,7 @@ pub const CHECK_BITS: [u16; 522] = [
 ];
 
 // Where each position's edges start in BIT_EDGES, and the end of the last.
-pub const BIT_START: [u16; 175] = [
+pub const BIT_STARTS: [u16; 175] = [
     0,
     3,
     6,

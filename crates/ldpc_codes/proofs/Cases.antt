@@ -13,7 +13,7 @@ use Rattle.construction.specs.Columns.{times, holds}
 use Rattle.tanner.specs.Checks.{Word, Checks, parity, count, lowBits}
 use Rattle.tanner.proofs.Count.{low-at}
 use Rattle.staircase.specs.Staircase.{taps, parityEntries, checkRow, checkRows}
-use Rattle.ldpc_codes.specs.Calls.{weightBy}
+use Rattle.ldpc_codes.specs.Calls.{syndromeBy}
 use Rattle.staircase.specs.Codes.{codeOf, checks}
 use Rattle.staircase.proofs.Rows.{threes, rows0, rows1, rows2}
 use Rattle.staircase.proofs.N512R12.{checks-right0}
@@ -93,10 +93,10 @@ two-alone cs n p q e =
 
 -- ---- the cases of a code with k message bits and m parity bits
 pub record Cases (code k m : ℕ) : Type 0 where
-  pub lastBit : weightBy code (alone (k + m - 1) 1 0) ≡ 1
-  pub bitK : weightBy code (alone k 1 (m - 1)) ≡ 2
-  pub messageBit : weightBy code (alone 0 1 (k + m - 1)) ≡ 3
-  pub byteTwo : weightBy code (alone 0 2 (k + m - 1)) ≡ 0
+  pub lastBit : syndromeBy code (alone (k + m - 1) 1 0) .count ≡ 1
+  pub bitK : syndromeBy code (alone k 1 (m - 1)) .count ≡ 2
+  pub messageBit : syndromeBy code (alone 0 1 (k + m - 1)) .count ≡ 3
+  pub byteTwo : syndromeBy code (alone 0 2 (k + m - 1)) .count ≡ 0
 
 odd0 : (p : ℕ) → oddRows (checks (codeOf 0)) p ≡ oddRows (checkRows 256 (threes rows0) 0 256) p
 odd0 p = rw checks-right0

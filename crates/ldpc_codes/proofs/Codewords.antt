@@ -11,7 +11,7 @@ use lib.Seq.{take-at, set-at, getD-at, getD-append-add, length-take-le}
 use Rattle.construction.specs.Columns.{holds}
 use Rattle.tanner.specs.Checks.{Word, parity, count, countMasked, lowBits}
 use Rattle.tanner.specs.Flat.{Below, joined}
-use Rattle.tanner.proofs.Count.{parity-bit, parity-front, low-count, bits-low}
+use Rattle.tanner.proofs.Count.{low-length, parity-bit, parity-front, low-count, bits-low}
 use Rattle.staircase.specs.Staircase.{taps, parityEntries, checkRow, checkRows, checksOf, parityBits, encoded}
 use Rattle.ldpc_codes.specs.Calls.{filled}
 
@@ -119,10 +119,6 @@ low-append (x ∷ xs) ys = ap (λ (l : List ℕ). (x % 2) ∷ l) (low-append xs 
 low-zero : (xs : List ℕ) → lowBits (0 ∷ xs) ≡ 0 ∷ lowBits xs
 unfolding lowBits
 low-zero xs = refl
-
-pub low-length : (xs : List ℕ) → length (lowBits xs) ≡ length xs
-unfolding lowBits
-low-length xs = length-map xs (λ (b : ℕ). b % 2)
 
 last-bit : (ps : List ℕ) → Below 2 ps → lastOf ps < 2
 unfolding lastOf Below

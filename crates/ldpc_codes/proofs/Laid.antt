@@ -12,10 +12,10 @@ use lib.Dec.{eqb}
 use lib.ListN.{length, getD, set, take, drop, length-drop}
 use lib.Seq.{set-at, set-set, drop-cons, take-suc, append-snoc, getD-take, getD-drop, length-take-le}
 use Rattle.refusal.specs.Outcome.{Outcome, judged, kept}
-use Rattle.construction.specs.Codes.{Code}
-use Rattle.tanner.specs.Checks.{Checks, count, countMasked, lowBits, xorFrom}
+use Rattle.construction.specs.Codes.{Code, blockLength}
+use Rattle.tanner.specs.Checks.{Checks, count, countMasked, lowBits, xorFrom, Syndrome, syndrome, syndromeMasked}
 use Rattle.tanner.specs.Flat.{joined, offsets, cut, rowsFrom, rowsOf, Below, Within, FlatChecks}
-use Rattle.tanner.proofs.Count.{low-count, count-front}
+use Rattle.tanner.proofs.First.{low-syndrome, front-syndrome}
 use Rattle.tanner.proofs.Flat.{rows-laid, flat-checks, all-below}
 use Rattle.tanner.proofs.Steps.{rows-more, rows-done}
 use Rattle.staircase.specs.Staircase.{encoded}
@@ -112,7 +112,7 @@ module _ (c : Code) (starts flat : List ℕ) (s : starts ≡ offsets (checks c))
   rows-are : rowsOf starts flat ≡ checks c
   rows-are = rw (s, f) (rows-laid (checks c))
 
-  low-checks : Below (c .k + c .m) (joined (checks c))
+  low-checks : Below (blockLength c) (joined (checks c))
   unfolding checks
   low-checks = checks-below (c .k) (c .m) (columns c) (omega (arith, columns-length c))
 
@@ -120,15 +120,15 @@ module _ (c : Code) (starts flat : List ℕ) (s : starts ≡ offsets (checks c))
   unfolding checks
   checks-are = checks-length (c .k) (c .m) (columns c)
 
-  pub laid-flat : c .m < 65536 → FlatChecks starts flat (c .k + c .m)
-  laid-flat h = rw (s, f) (flat-checks (checks c) (c .k + c .m) (omega (arith, checks-are)) low-checks)
+  pub laid-flat : c .m < 65536 → FlatChecks starts flat (blockLength c)
+  laid-flat h = rw (s, f) (flat-checks (checks c) (blockLength c) (omega (arith, checks-are)) low-checks)
 
-  pub laid-weight : (hard : List ℕ) → countMasked 1 (rowsOf starts flat) hard ≡ count (checks c) (lowBits (take (c .k + c .m) hard))
+  laid-weight : (hard : List ℕ) → syndromeMasked 1 (rowsOf starts flat) hard ≡ syndrome (checks c) (lowBits (take (blockLength c) hard))
   laid-weight hard =
-      rw (rows-are, low-take (c .k + c .m) hard)
-      (low-count (checks c) hard ∙ sym (count-front (c .k + c .m) (lowBits hard) (all-below (c .k + c .m) (checks c) low-checks)))
+      rw (rows-are, low-take (blockLength c) hard)
+      (low-syndrome (checks c) hard ∙ sym (front-syndrome (blockLength c) (lowBits hard) (all-below (blockLength c) (checks c) low-checks)))
 
-  pub laid-encoded : (message codeword : List ℕ) → length message ≡ c .k → length codeword ≡ c .k + c .m
+  pub laid-encoded : (message codeword : List ℕ) → length message ≡ c .k → length codeword ≡ blockLength c
       → filled (rowsOf starts flat) (c .k) (message ++ drop (length message) codeword) ≡ encoded (c .m) (columns c) message
   unfolding checks
   laid-encoded message codeword p q =
@@ -147,10 +147,10 @@ kept-lengths k n message codeword a b h = kept-if (eqb (length message) k) (eqb 
 -- ---- the answers of the calls
 module _ (c : Code) (starts flat : List ℕ) (s : starts ≡ offsets (checks c)) (f : flat ≡ joined (checks c)) where
   pub laid-written : (message codeword : List ℕ) {last : List ℕ}
-      → last ≡ kept (lengthRefusals (c .k) (c .k + c .m) message codeword) codeword (filled (rowsOf starts flat) (c .k) (message ++ drop (length message) codeword))
-      → last ≡ kept (lengthRefusals (c .k) (c .k + c .m) message codeword) codeword (encoded (c .m) (columns c) message)
-  laid-written message codeword e = e ∙ kept-lengths (c .k) (c .k + c .m) message codeword _ _ (laid-encoded c starts flat s f message codeword)
+      → last ≡ kept (lengthRefusals (c .k) (blockLength c) message codeword) codeword (filled (rowsOf starts flat) (c .k) (message ++ drop (length message) codeword))
+      → last ≡ kept (lengthRefusals (c .k) (blockLength c) message codeword) codeword (encoded (c .m) (columns c) message)
+  laid-written message codeword e = e ∙ kept-lengths (c .k) (blockLength c) message codeword _ _ (laid-encoded c starts flat s f message codeword)
 
-  pub laid-judged : (hard : List ℕ) {a : Outcome ℕ} → a ≡ judged (shortRefusals (c .k + c .m) hard) (countMasked 1 (rowsOf starts flat) hard)
-      → a ≡ judged (shortRefusals (c .k + c .m) hard) (count (checks c) (lowBits (take (c .k + c .m) hard)))
-  laid-judged hard e = e ∙ ap (judged (shortRefusals (c .k + c .m) hard)) (laid-weight c starts flat s f hard)
+  pub laid-judged : (hard : List ℕ) {a : Outcome Syndrome} → a ≡ judged (shortRefusals (blockLength c) hard) (syndromeMasked 1 (rowsOf starts flat) hard)
+      → a ≡ judged (shortRefusals (blockLength c) hard) (syndrome (checks c) (lowBits (take (blockLength c) hard)))
+  laid-judged hard e = e ∙ ap (judged (shortRefusals (blockLength c) hard)) (laid-weight c starts flat s f hard)

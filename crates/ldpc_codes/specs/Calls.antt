@@ -6,23 +6,10 @@ use lib.Dec.{eqb, ltb}
 use lib.ListN.{length, take, set}
 use Rattle.refusal.specs.Outcome.{Outcome, accepted, refused, Condition, _when_}
 use Rattle.refusal.specs.Numbers.{numberOf}
-use Rattle.tanner.specs.Checks.{Checks, count, countMasked, lowBits}
+use Rattle.construction.specs.Codes.{blockLength}
+use Rattle.tanner.specs.Checks.{Checks, countMasked, lowBits, Syndrome, syndrome}
 use Rattle.staircase.specs.Staircase.{encoded}
 use Rattle.staircase.specs.Codes.{codeOf, columns, checks}
-use Rattle.ldpc_codes.specs.declared.Encoding.{Encoding}
-use Rattle.ldpc_codes.specs.declared.Encoding.the-variants.{Written, Refused}
-use Rattle.ldpc_codes.specs.declared.Weight.{Weight}
-use Rattle.ldpc_codes.specs.declared.Weight.the-variants as weight
-
--- an answer of `encode` holds no values
-abbrev pub encodingOf : Encoding → Outcome Unit
-encodingOf Written = accepted tt
-encodingOf (Refused r) = refused (numberOf r)
-
--- an answer of `syndrome_weight` holds the count
-abbrev pub weightOf : Weight → Outcome ℕ
-weightOf (weight.Count n) = accepted n
-weightOf (weight.Refused r) = refused (numberOf r)
 
 -- "4: input not its fixed length (staircase message K ..)", "8: an output not exactly its length" (N bytes)
 abbrev pub lengthRefusals : ℕ → ℕ → List ℕ → List ℕ → List Condition
@@ -31,7 +18,7 @@ lengthRefusals k n message codeword = (4 when not (eqb (length message) k)) ∷ 
 -- "1: code not 0-2 (staircase call)"
 abbrev pub encodeRefusals : ℕ → List ℕ → List ℕ → List Condition
 encodeRefusals code message codeword =
-    (1 when not (ltb code 3)) ∷ lengthRefusals (codeOf code .k) (codeOf code .k + codeOf code .m) message codeword
+    (1 when not (ltb code 3)) ∷ lengthRefusals (codeOf code .k) (blockLength (codeOf code)) message codeword
 
 abbrev pub encodedBy : ℕ → List ℕ → List ℕ
 encodedBy code message = encoded (codeOf code .m) (columns (codeOf code)) message
@@ -41,11 +28,11 @@ abbrev pub shortRefusals : ℕ → List ℕ → List Condition
 shortRefusals n hard = (5 when ltb (length hard) n) ∷ []
 
 abbrev pub weightRefusals : ℕ → List ℕ → List Condition
-weightRefusals code hard = (1 when not (ltb code 3)) ∷ shortRefusals (codeOf code .k + codeOf code .m) hard
+weightRefusals code hard = (1 when not (ltb code 3)) ∷ shortRefusals (blockLength (codeOf code)) hard
 
 -- "`syndrome_weight` uses low bits, and reads the first N bytes of a longer word."
-abbrev pub weightBy : ℕ → List ℕ → ℕ
-weightBy code hard = count (checks (codeOf code)) (lowBits (take (codeOf code .k + codeOf code .m) hard))
+abbrev pub syndromeBy : ℕ → List ℕ → Syndrome
+syndromeBy code hard = syndrome (checks (codeOf code)) (lowBits (take (blockLength (codeOf code)) hard))
 
 -- what the code computes: each check's parity bit, the first at p, is the count of that check alone with the bit at 0
 unfoldable pub filled : Checks → ℕ → List ℕ → List ℕ

@@ -3,32 +3,24 @@ use construction::codes::N512R12;
 use construction::codes::N512R34;
 use construction::codes::N576R23;
 use refusal::Refusal;
+use refusal::Status;
 use staircase::tables::N512R12_CHECK_BITS;
 use staircase::tables::N512R12_CHECK_STARTS;
 use staircase::tables::N512R34_CHECK_BITS;
 use staircase::tables::N512R34_CHECK_STARTS;
 use staircase::tables::N576R23_CHECK_BITS;
 use staircase::tables::N576R23_CHECK_STARTS;
+use tanner::Counting;
 ghost use mathlib.Core.Path.{_≡_};
 ghost use mathlib.Core.List.{List, [], _∷_, _++_};
 ghost use Prim.Native.Nat.{ℕ, _+_, _-_, _≤_, _<_};
 ghost use lib.ListN.{length, take, drop, set};
 ghost use Rattle.refusal.specs.Outcome.{judged, kept};
-ghost use Rattle.tanner.specs.Checks.{count, countMasked, lowBits};
+ghost use Rattle.refusal.specs.Answers.{statusOf};
+ghost use Rattle.tanner.specs.Checks.{countMasked, syndromeMasked};
+ghost use Rattle.tanner.specs.Found.{countingOf};
 ghost use Rattle.tanner.specs.Flat.{FlatChecks, rowsOf};
-ghost use Rattle.ldpc_codes.specs.Calls.{encodingOf, weightOf, lengthRefusals, encodeRefusals, encodedBy, shortRefusals, weightRefusals, weightBy, filled};
-
-// The answer of `encode`.
-pub enum Encoding {
-    Written,
-    Refused(Refusal),
-}
-
-// The answer of `syndrome_weight`.
-pub enum Weight {
-    Count(u16),
-    Refused(Refusal),
-}
+ghost use Rattle.ldpc_codes.specs.Calls.{lengthRefusals, encodeRefusals, encodedBy, shortRefusals, weightRefusals, syndromeBy, filled};
 
 // The message bytes, whole, at the front of the codeword.
 fn copy_message(message: &[u8], codeword: &mut [u8])
@@ -77,26 +69,26 @@ fn encode_over(
     n: usize,
     message: &[u8],
     codeword: &mut [u8],
-) -> Encoding
+) -> Status
     requires { ⌜ FlatChecks (now starts) (now flat) n ⌝ }
     requires { ⌜ k + (length (now starts) - 1) ≡ n ⌝ }
-    ensures { λ r. ⌜ encodingOf r ≡ judged (lengthRefusals k n (now (message .entry)) (now (codeword .entry))) tt ⌝ }
+    ensures { λ r. ⌜ statusOf r ≡ judged (lengthRefusals k n (now (message .entry)) (now (codeword .entry))) tt ⌝ }
     ensures { λ r. ⌜ now (codeword .exit) ≡ kept (lengthRefusals k n (now (message .entry)) (now (codeword .entry))) (now (codeword .entry)) (filled (rowsOf (now (starts .entry)) (now (flat .entry))) k (now (message .entry) ++ drop (length (now (message .entry))) (now (codeword .entry)))) ⌝ }
 {
     if message.len() != k {
-        return Encoding::Refused(Refusal::InputLength);
+        return Status::Refused(Refusal::InputLength);
     }
     if codeword.len() != n {
-        return Encoding::Refused(Refusal::OutputLength);
+        return Status::Refused(Refusal::OutputLength);
     }
     copy_message(message, codeword);
     parity_bits(starts, flat, k, codeword);
-    Encoding::Written
+    Status::Done
 }
 
 // The codeword of a message of K bytes, whose low bits are its bits.
-pub fn encode(code: u8, message: &[u8], codeword: &mut [u8]) -> Encoding
-    ensures { λ r. ⌜ encodingOf r ≡ judged (encodeRefusals code (now (message .entry)) (now (codeword .entry))) tt ⌝ }
+pub fn encode(code: u32, message: &[u8], codeword: &mut [u8]) -> Status
+    ensures { λ r. ⌜ statusOf r ≡ judged (encodeRefusals code (now (message .entry)) (now (codeword .entry))) tt ⌝ }
     ensures { λ r. ⌜ now (codeword .exit) ≡ kept (encodeRefusals code (now (message .entry)) (now (codeword .entry))) (now (codeword .entry)) (encodedBy code (now (message .entry))) ⌝ }
 {
     if code == 0 {
@@ -129,23 +121,23 @@ pub fn encode(code: u8, message: &[u8], codeword: &mut [u8]) -> Encoding
             codeword,
         );
     }
-    Encoding::Refused(Refusal::UnknownCode)
+    Status::Refused(Refusal::UnknownCode)
 }
 
-// The count of a word over a code's checks, with its length tested.
-fn weight_over(starts: &[u16], flat: &[u16], n: usize, hard: &[u8]) -> Weight
+// The count and the first unsatisfied check of a word over a code's checks, with its length tested.
+fn weight_over(starts: &[u16], flat: &[u16], n: usize, hard: &[u8]) -> Counting
     requires { ⌜ FlatChecks (now starts) (now flat) n ⌝ }
-    ensures { λ r. ⌜ weightOf r ≡ judged (shortRefusals n (now (hard .entry))) (countMasked 1 (rowsOf (now (starts .entry)) (now (flat .entry))) (now (hard .entry))) ⌝ }
+    ensures { λ r. ⌜ countingOf r ≡ judged (shortRefusals n (now (hard .entry))) (syndromeMasked 1 (rowsOf (now (starts .entry)) (now (flat .entry))) (now (hard .entry))) ⌝ }
 {
     if hard.len() < n {
-        return Weight::Refused(Refusal::WordTooShort);
+        return Counting::Refused(Refusal::WordTooShort);
     }
-    Weight::Count(tanner::count_masked(starts, flat, hard, 1))
+    Counting::Counted(tanner::counted_masked(starts, flat, hard, 1))
 }
 
-// How many checks the low bits of the word's first N bytes leave unsatisfied.
-pub fn syndrome_weight(code: u8, hard: &[u8]) -> Weight
-    ensures { λ r. ⌜ weightOf r ≡ judged (weightRefusals code (now (hard .entry))) (weightBy code (now (hard .entry))) ⌝ }
+// How many checks the low bits of the word's first N bytes leave unsatisfied, and the first of them.
+pub fn syndrome_weight(code: u32, hard: &[u8]) -> Counting
+    ensures { λ r. ⌜ countingOf r ≡ judged (weightRefusals code (now (hard .entry))) (syndromeBy code (now (hard .entry))) ⌝ }
 {
     if code == 0 {
         return weight_over(&N512R12_CHECK_STARTS, &N512R12_CHECK_BITS, N512R12::N, hard);
@@ -156,5 +148,5 @@ pub fn syndrome_weight(code: u8, hard: &[u8]) -> Weight
     if code == 2 {
         return weight_over(&N512R34_CHECK_STARTS, &N512R34_CHECK_BITS, N512R34::N, hard);
     }
-    Weight::Refused(Refusal::UnknownCode)
+    Counting::Refused(Refusal::UnknownCode)
 }

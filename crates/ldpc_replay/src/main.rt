@@ -1,8 +1,9 @@
 // Replays the Rust's answers for the (174,91) code: prints the tables, reads 300 messages of 12 bytes and prints the codeword of each, then reads
-// words of 174 bytes and prints the count of each, all in hexadecimal. The file stdout holds what the Rust printed (tools/ldpc_replay.rs).
-use ldpc::Count;
-use ldpc::Encoded;
+// words of 174 bytes and prints the count of each and the first check that it includes, all in hexadecimal. The file stdout holds what the Rust printed (tools/ldpc_replay.rs).
 use libc::STDOUT_FILENO;
+use refusal::Status;
+use tanner::Counting;
+use tanner::FirstCheck;
 
 fn wide(byte: u8) -> u64 {
     byte as u64
@@ -46,10 +47,10 @@ fn print_codeword(codeword: &[u8; 22]) {
 fn print_encoding(message: &[u8; 12]) {
     let mut codeword = [0xFFu8; 22];
     match ldpc::ldpc_encode(message, &mut codeword) {
-        Encoded::Done => {
+        Status::Done => {
             print_codeword(&codeword);
         }
-        Encoded::Refused(_) => {
+        Status::Refused(_) => {
             io::write_all(STDOUT_FILENO, b"refused");
         }
     }
@@ -75,12 +76,25 @@ fn encode_all() {
     }
 }
 
-fn print_count(c: Count) {
-    match c {
-        Count::Value(n) => {
-            io::print_hex(STDOUT_FILENO, n as u64, 2);
+fn print_first(first: FirstCheck) {
+    match first {
+        FirstCheck::Check(check) => {
+            io::print_hex(STDOUT_FILENO, check as u64, 2);
         }
-        Count::Refused(_) => {
+        FirstCheck::Satisfied => {
+            io::write_all(STDOUT_FILENO, b"--");
+        }
+    }
+}
+
+fn print_count(c: Counting) {
+    match c {
+        Counting::Counted(counted) => {
+            io::print_hex(STDOUT_FILENO, counted.count as u64, 2);
+            let first = counted.first;
+            print_first(first);
+        }
+        Counting::Refused(_) => {
             io::write_all(STDOUT_FILENO, b"refused");
         }
     }

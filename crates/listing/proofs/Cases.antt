@@ -5,22 +5,22 @@ use mathlib.Core.List.{List, [], _∷_}
 use Prim.Native.Nat.{ℕ}
 use lib.Ieee.{ofBits, ofFields, isNan, odd, le, lt, eq}
 use lib.ListN.{replicate}
-use Rattle.crc.specs.Bits.{numberAfter}
+use Rattle.bits.specs.Bits.{numberAfter}
 use Rattle.crc.specs.Qex.{bringDown, divide, qex}
-use Rattle.tanner.specs.Checks.{lowBits, parity, count}
+use Rattle.tanner.specs.Checks.{lowBits, parity, count, firstBy}
 use Rattle.tanner.specs.Flat.{joined}
 use Rattle.ldpc.specs.Tables.{nm, numRows}
 use Rattle.ldpc.specs.Code174.{rowsOfSeven, checks}
 use Rattle.softmath.specs.Functions.{decide}
-use Rattle.belief.specs.Rounds.{initialWord, roundWords, chosenFrom, chosen, chosenCount, chosenBits}
-use Rattle.batch.specs.Codes.{sizeN, sizeK, decodeOf}
-use Rattle.batch.specs.Pairs as batch
-use Rattle.batch.specs.Calls.{ruleNotOfCode, pairRefusals, batchRefusals, frameCount, frameBits, batchCounts, batchBits}
+use Rattle.belief.specs.Rounds.{initialWord, roundWords, chosenFrom, chosen, chosenCount, chosenFirst, chosenBits, roundsRun}
+use Rattle.batch.specs.Codes.{sizeN, sizeK, decodeBy}
+use Rattle.batch.specs.Pairs.{pairsOf, frameOf}
+use Rattle.batch.specs.Calls.{ruleNotOfCode, pairRefusals, refusalsOf, written}
 use Rattle.clean.specs.Clean.{anyNan, checksumRight, frameClean}
-use Rattle.listing.specs.Text.{leading, decimal, byteAt, hexDigit, hexFrom, hex}
-use Rattle.listing.specs.Lines.{field, headLine, cleanOrOpen, frameLine, frameLines, refusalLine, printed}
-use Rattle.listing.specs.Input.{u32sFrom, floatOf, pairsOf, valuesOf, malformed}
-use Rattle.listing.specs.Listing.{programRefusals, framesText, listingOf}
+use Rattle.text.specs.Text.{leading, decimal, byteAt, hexDigit, hexFrom, hex, field, refusalLine}
+use Rattle.listing.specs.Lines.{headLine, cleanOrOpen, firstField, frameLine, linesFrom}
+use Rattle.batch_input.specs.Input.{u32sFrom, floatOf, pairNumbers, valuesOf, malformed}
+use Rattle.listing.specs.Listing.{framesText, listingOf}
 
 -- Document 01's sample: code 3, rule 0, limit 20, scale 0, one pair (0, 174), 174 values 1.0.
 unfoldable pub sample : List ℕ
@@ -28,9 +28,12 @@ sample =
     3 ∷ 0 ∷ 20 ∷ 0 ∷ 0 ∷ 0 ∷ 0 ∷ 0 ∷ 1 ∷ 0 ∷ 0 ∷ 0 ∷ 0 ∷ 0 ∷ 0 ∷ 0 ∷ 174 ∷ 0 ∷ 0 ∷ 0
     ∷ joined (replicate 174 (0 ∷ 0 ∷ 0x80 ∷ 0x3f ∷ []))
 
--- document 01: it "prints exactly" these two lines
-pub sample-listing : listingOf sample ≡ 99 ∷ 111 ∷ 100 ∷ 101 ∷ 32 ∷ 51 ∷ 32 ∷ 114 ∷ 117 ∷ 108 ∷ 101 ∷ 32 ∷ 48 ∷ 32 ∷ 108 ∷ 105 ∷ 109 ∷ 105 ∷ 116 ∷ 32 ∷ 50 ∷ 48 ∷ 32 ∷ 102 ∷ 114 ∷ 97 ∷ 109 ∷ 101 ∷ 115 ∷ 32 ∷ 49 ∷ 10 ∷ 48 ∷ 32 ∷ 48 ∷ 32 ∷ 99 ∷ 108 ∷ 101 ∷ 97 ∷ 110 ∷ 32 ∷ 48 ∷ 48 ∷ 48 ∷ 48 ∷ 48 ∷ 48 ∷ 48 ∷ 48 ∷ 48 ∷ 48 ∷ 48 ∷ 48 ∷ 48 ∷ 48 ∷ 48 ∷ 48 ∷ 48 ∷ 48 ∷ 48 ∷ 48 ∷ 48 ∷ 48 ∷ 48 ∷ 48 ∷ 10 ∷ []
-unfolding sample joined listingOf programRefusals framesText printed headLine field decimal leading frameLines frameLine cleanOrOpen frameClean anyNan isNan checksumRight lowBits qex divide bringDown numberAfter hex hexFrom hexDigit byteAt pairsOf valuesOf floatOf u32sFrom malformed sizeN sizeK batchRefusals pairRefusals batch.pairsOf batch.frameOf batchCounts batchBits frameCount frameBits decodeOf chosen chosenCount chosenBits chosenFrom initialWord roundWords parity count checks rowsOfSeven nm numRows decide ofBits ofFields odd le lt eq ruleNotOfCode
+-- document 01: it "prints exactly" these two lines, the second beginning `0 0 0 clean` since change request N1
+pub sample-listing : listingOf sample ≡
+    99 ∷ 111 ∷ 100 ∷ 101 ∷ 32 ∷ 51 ∷ 32 ∷ 114 ∷ 117 ∷ 108 ∷ 101 ∷ 32 ∷ 48 ∷ 32 ∷ 108 ∷ 105 ∷ 109 ∷ 105 ∷ 116 ∷ 32 ∷ 50 ∷ 48 ∷ 32 ∷ 102 ∷ 114 ∷ 97 ∷
+    109 ∷ 101 ∷ 115 ∷ 32 ∷ 49 ∷ 10 ∷ 48 ∷ 32 ∷ 48 ∷ 32 ∷ 48 ∷ 32 ∷ 99 ∷ 108 ∷ 101 ∷ 97 ∷ 110 ∷ 32 ∷ 48 ∷ 48 ∷ 48 ∷ 48 ∷ 48 ∷ 48 ∷ 48 ∷ 48 ∷ 48 ∷ 48 ∷
+    48 ∷ 48 ∷ 48 ∷ 48 ∷ 48 ∷ 48 ∷ 48 ∷ 48 ∷ 48 ∷ 48 ∷ 48 ∷ 48 ∷ 48 ∷ 48 ∷ 10 ∷ []
+unfolding sample joined listingOf framesText headLine field decimal leading linesFrom frameLine cleanOrOpen firstField frameClean anyNan isNan checksumRight lowBits qex divide bringDown numberAfter hex hexFrom hexDigit byteAt pairNumbers valuesOf floatOf u32sFrom malformed sizeN sizeK refusalsOf pairRefusals pairsOf frameOf written decodeBy chosen chosenCount chosenFirst chosenBits chosenFrom initialWord roundWords roundsRun firstBy parity count checks rowsOfSeven nm numRows decide ofBits ofFields odd le lt eq ruleNotOfCode
 sample-listing = refl
 
 -- `refused 13`

@@ -1,9 +1,3 @@
-pub mod Put
 pub mod Lengths
-pub mod Frames
-pub mod Load
-pub mod Bounds
-pub mod Handed
-pub mod Room
-pub mod Limits
+pub mod Lines
 pub mod Cases

@@ -1,12 +1,13 @@
 -- The lines of a listing (document 01, "The program"). A text is the list of its ASCII codes.
 use mathlib.Core.Bool.{Bool, cond}
 use mathlib.Core.List.{List, [], _∷_, _++_}
-use Prim.Native.Nat.{ℕ, _+_}
+use Prim.Native.Nat.{ℕ, zero, suc}
+use lib.Dec.{eqb}
 use lib.Ieee.{Float}
-use lib.ListN.{take, drop}
-use Rattle.refusal.specs.Outcome.{Outcome, accepted, refused}
-use Rattle.clean.specs.Clean.{frameClean}
-use Rattle.listing.specs.Text.{decimal, hex}
+use lib.ListN.{getD}
+use Rattle.text.specs.Text.{space, newline, decimal, hex, field}
+use Rattle.batch.specs.Calls.{Lent}
+use Rattle.clean_frames.specs.CleanFrames.{bitsOf, cleanOf}
 
 -- ---- words, with the spaces around them
 
@@ -34,21 +35,7 @@ cleanWord = 32 ∷ 99 ∷ 108 ∷ 101 ∷ 97 ∷ 110 ∷ 32 ∷ []
 abbrev pub openWord : List ℕ
 openWord = 32 ∷ 111 ∷ 112 ∷ 101 ∷ 110 ∷ 32 ∷ []
 
--- `refused `
-abbrev pub refusedWord : List ℕ
-refusedWord = 114 ∷ 101 ∷ 102 ∷ 117 ∷ 115 ∷ 101 ∷ 100 ∷ 32 ∷ []
-
-abbrev pub space : List ℕ
-space = 32 ∷ []
-
-abbrev pub newline : List ℕ
-newline = 10 ∷ []
-
 -- ---- lines
-
--- a word and a number after it
-unfoldable pub field : List ℕ → ℕ → List ℕ
-field word n = word ++ decimal n
 
 -- "The head line repeats the numbers as given": `code 3 rule 0 limit 20 frames 1`
 unfoldable pub headLine : ℕ → ℕ → ℕ → ℕ → List ℕ
@@ -58,28 +45,22 @@ headLine code rule limit frames = field codeWord code ++ (field ruleWord rule ++
 unfoldable pub cleanOrOpen : Bool → List ℕ
 cleanOrOpen clean = cond clean cleanWord openWord
 
--- "Fields of a frame line: place, count, `clean` or `open`, bits packed .. in lower-case hexadecimal": `0 0 clean 00..`
-unfoldable pub frameLine : ℕ → ℕ → Bool → List ℕ → List ℕ
-frameLine place count clean bits = decimal place ++ (space ++ (decimal count ++ (cleanOrOpen clean ++ (hex bits ++ newline))))
+-- change request N8: "the line of a frame whose count is above 0 gets [the first check] as a last field, counted from 0"
+unfoldable pub firstField : ℕ → ℕ → List ℕ
+firstField count first = cond (eqb count 0) [] (field space first)
 
--- The lines of the frames from `place` on, each of its values, its count and its k bits. Change request N2: "A frame is clean when its count is 0,
--- none of its values is NaN, and, for code 3, the checksum that `ft8_add_crc` would store for its 77 payload bits equals the one it carries."
-unfoldable pub frameLines : ℕ → ℕ → ℕ → List (List Float) → List ℕ → List ℕ → List ℕ
-frameLines code k place frames [] bits = []
-frameLines code k place [] (count ∷ counts) bits = []
-frameLines code k place (values ∷ frames) (count ∷ counts) bits =
-    frameLine place count (frameClean code values count (take k bits)) (take k bits) ++ frameLines code k (place + 1) frames counts (drop k bits)
+-- "Fields of a frame line: place, count, `clean` or `open`, bits packed .. in lower-case hexadecimal", with the rounds as "third field, before `clean`"
+-- (change request N1): `0 0 0 clean 00..`
+unfoldable pub frameLine : ℕ → ℕ → ℕ → Bool → List ℕ → ℕ → List ℕ
+frameLine place count rounds clean bits first =
+    decimal place ++ (field space count ++ (field space rounds ++ (cleanOrOpen clean ++ (hex bits ++ (firstField count first ++ newline)))))
 
--- "A refusal prints only one line, as `refused 13`, with the number that applies."
-unfoldable pub refusalLine : ℕ → List ℕ
-refusalLine number = field refusedWord number ++ newline
+-- the line of the frame at place j, of the frames' values and of what the batch wrote
+abbrev pub lineAt : ℕ → List (List Float) → Lent → ℕ → List ℕ
+lineAt code frames l j =
+    frameLine j (getD (l .counts) j 0) (getD (l .rounds) j 0) (cleanOf code frames (l .counts) (l .bits) j) (bitsOf code (l .bits) j) (getD (l .firsts) j 0)
 
--- what is printed for an answer
-unfoldable pub printed : Outcome (List ℕ) → List ℕ
-printed (accepted text) = text
-printed (refused number) = refusalLine number
-
--- the text that goes with an answer that carries none
-unfoldable pub withText : Outcome Unit → List ℕ → Outcome (List ℕ)
-withText (accepted u) text = accepted text
-withText (refused number) text = refused number
+-- n lines, the first that of place j
+unfoldable pub linesFrom : (ℕ → List ℕ) → ℕ → ℕ → List ℕ
+linesFrom line j zero = []
+linesFrom line j (suc n) = line j ++ linesFrom line (suc j) n

@@ -1,143 +1,31 @@
 // The listing of a batch: the program's input read, and what is printed for it written into a lent buffer.
-use batch::Batched;
+use belief::WORK;
+use refusal::Status;
 ghost use mathlib.Core.Path.{_≡_};
-ghost use mathlib.Core.List.{[], _∷_};
-ghost use Prim.Native.Nat.{_+_, _*_, _<_, _≤_, min};
+ghost use mathlib.Core.List.{[]};
 ghost use mathlib.Core.Bool.{false};
-ghost use lib.ListN.{length, take, getD};
-ghost use Rattle.refusal.specs.Outcome.{accepted, judged, kept};
+ghost use Prim.Native.Nat.{_+_, _*_, _≤_};
+ghost use lib.ListN.{length, take};
+ghost use Rattle.refusal.specs.Answers.{statusOf};
+ghost use Rattle.text.specs.Written.{Written};
 ghost use Rattle.batch.specs.Codes.{sizeN, sizeK};
-ghost use Rattle.batch.specs.Calls.{batchedOf, AllWithin};
-ghost use Rattle.clean.specs.Clean.{frameClean};
-ghost use Rattle.listing.specs.Written.{Written};
-ghost use Rattle.listing.specs.Text.{leading, decimal, bitAt, byteAt, hexDigit, hexByte, hex};
-ghost use Rattle.listing.specs.Input.{codeOf, u16At, u32At, u32sFrom, floatOf, pairCount, valuesStart, pairsOf, valuesOf, malformed};
-ghost use Rattle.listing.specs.Listing.{callRefusals, callPairs, callFrames, callBits, callCounts, framesText, listingOf, held};
-ghost use Rattle.listing.specs.Lines.{field, headLine, cleanOrOpen, frameLine, frameLines, refusalLine, printed, withText};
-
-// ---- texts and numbers, each written at a place of the buffer; the answer is the place after it
-
-fn put_byte(out: &mut [u8], at: usize, byte: u8) -> usize
-    requires { ⌜ at < length (now out) ⌝ }
-    ensures { λ r. ⌜ Written (now (out .entry)) at (byte ∷ []) (now (out .exit)) r ⌝ }
-{
-    out[at] = byte;
-    at + 1
-}
-
-fn put_text(out: &mut [u8], at: usize, text: &[u8]) -> usize
-    requires { ⌜ at + length (now text) ≤ length (now out) ⌝ }
-    ensures { λ r. ⌜ Written (now (out .entry)) at (now (text .entry)) (now (out .exit)) r ⌝ }
-{
-    let mut next = at;
-    let mut i = 0;
-    while i < text.len() {
-        out[next] = text[i];
-        next += 1;
-        i += 1;
-    }
-    next
-}
-
-// The digit of weight p, unless the number is below p.
-fn put_leading(out: &mut [u8], at: usize, p: u16, n: u16) -> usize
-    requires { ⌜ 0 < p ⌝ }
-    requires { ⌜ at + length (leading p n) ≤ length (now out) ⌝ }
-    ensures { λ r. ⌜ Written (now (out .entry)) at (leading p n) (now (out .exit)) r ⌝ }
-{
-    if n < p {
-        return at;
-    }
-    let digit = n / p % 10;
-    put_byte(out, at, 48 + digit as u8)
-}
-
-fn put_decimal(out: &mut [u8], at: usize, n: u16) -> usize
-    requires { ⌜ at + length (decimal n) ≤ length (now out) ⌝ }
-    ensures { λ r. ⌜ Written (now (out .entry)) at (decimal n) (now (out .exit)) r ⌝ }
-{
-    let a = put_leading(out, at, 10000, n);
-    let b = put_leading(out, a, 1000, n);
-    let c = put_leading(out, b, 100, n);
-    let d = put_leading(out, c, 10, n);
-    let digit = n % 10;
-    put_byte(out, d, 48 + digit as u8)
-}
-
-// ---- bits
-
-// A bit, or a zero past the last.
-fn bit_at(bits: &[u8], i: usize) -> u8
-    ensures { λ r. ⌜ r ≡ bitAt (now (bits .entry)) i ⌝ }
-{
-    if i < bits.len() { bits[i] % 2 } else { 0 }
-}
-
-// Eight bits as a byte.
-fn byte_at(bits: &[u8], i: usize) -> u8
-    requires { ⌜ i < length (now bits) ⌝ }
-    ensures { λ r. ⌜ r ≡ byteAt (now (bits .entry)) i ⌝ }
-{
-    128 * bit_at(bits, i)
-        + 64 * bit_at(bits, i + 1)
-        + 32 * bit_at(bits, i + 2)
-        + 16 * bit_at(bits, i + 3)
-        + 8 * bit_at(bits, i + 4)
-        + 4 * bit_at(bits, i + 5)
-        + 2 * bit_at(bits, i + 6)
-        + bit_at(bits, i + 7)
-}
-
-fn hex_digit(d: u8) -> u8
-    requires { ⌜ d < 16 ⌝ }
-    ensures { λ r. ⌜ r ≡ hexDigit d ⌝ }
-{
-    if d < 10 { 48 + d } else { 87 + d }
-}
-
-fn put_hex_byte(out: &mut [u8], at: usize, byte: u8) -> usize
-    requires { ⌜ at + 2 ≤ length (now out) ⌝ }
-    ensures { λ r. ⌜ Written (now (out .entry)) at (hexByte byte) (now (out .exit)) r ⌝ }
-{
-    let high = put_byte(out, at, hex_digit(byte / 16));
-    put_byte(out, high, hex_digit(byte % 16))
-}
-
-// Bits packed into bytes, in hexadecimal.
-fn put_hex(out: &mut [u8], at: usize, bits: &[u8]) -> usize
-    requires { ⌜ at + length (hex (now bits)) ≤ length (now out) ⌝ }
-    ensures { λ r. ⌜ Written (now (out .entry)) at (hex (now (bits .entry))) (now (out .exit)) r ⌝ }
-{
-    let mut next = at;
-    let mut i = 0;
-    while i < bits.len() {
-        let byte = byte_at(bits, i);
-        next = put_hex_byte(out, next, byte);
-        i += 8;
-    }
-    next
-}
+ghost use Rattle.batch.specs.Pairs.{pairsOf, framesOf, AllWithin};
+ghost use Rattle.batch.specs.Calls.{lent, batch, Answered};
+ghost use Rattle.batch_input.specs.Input.{codeOf, ruleOf, limitOf, scaleOf, pairCount, pairNumbers, valuesOf, malformed};
+ghost use Rattle.listing.specs.Lines.{headLine, cleanOrOpen, firstField, frameLine, lineAt, linesFrom};
+ghost use Rattle.listing.specs.Listing.{framesText, listingOf, held};
 
 // ---- lines
-
-// A word and a number after it.
-fn put_field(out: &mut [u8], at: usize, word: &[u8], n: u16) -> usize
-    requires { ⌜ at + length (field (now word) n) ≤ length (now out) ⌝ }
-    ensures { λ r. ⌜ Written (now (out .entry)) at (field (now (word .entry)) n) (now (out .exit)) r ⌝ }
-{
-    let a = put_text(out, at, word);
-    put_decimal(out, a, n)
-}
 
 fn head_line(out: &mut [u8], at: usize, code: u16, rule: u16, limit: u16, frames: u16) -> usize
     requires { ⌜ at + length (headLine code rule limit frames) ≤ length (now out) ⌝ }
     ensures { λ r. ⌜ Written (now (out .entry)) at (headLine code rule limit frames) (now (out .exit)) r ⌝ }
 {
-    let a = put_field(out, at, b"code ", code);
-    let b = put_field(out, a, b" rule ", rule);
-    let c = put_field(out, b, b" limit ", limit);
-    let d = put_field(out, c, b" frames ", frames);
-    put_byte(out, d, 10)
+    let a = text::put_field(out, at, b"code ", code);
+    let b = text::put_field(out, a, b" rule ", rule);
+    let c = text::put_field(out, b, b" limit ", limit);
+    let d = text::put_field(out, c, b" frames ", frames);
+    text::put_byte(out, d, 10)
 }
 
 fn clean_or_open(out: &mut [u8], at: usize, clean: bool) -> usize
@@ -145,168 +33,93 @@ fn clean_or_open(out: &mut [u8], at: usize, clean: bool) -> usize
     ensures { λ r. ⌜ Written (now (out .entry)) at (cleanOrOpen clean) (now (out .exit)) r ⌝ }
 {
     if clean {
-        return put_text(out, at, b" clean ");
+        return text::put_text(out, at, b" clean ");
     }
-    put_text(out, at, b" open ")
+    text::put_text(out, at, b" open ")
 }
 
-fn frame_line(out: &mut [u8], at: usize, place: u16, count: u16, clean: bool, bits: &[u8]) -> usize
-    requires { ⌜ at + length (frameLine place count clean (now bits)) ≤ length (now out) ⌝ }
-    ensures { λ r. ⌜ Written (now (out .entry)) at (frameLine place count clean (now (bits .entry))) (now (out .exit)) r ⌝ }
+// The first unsatisfied check, where there is one.
+fn first_field(out: &mut [u8], at: usize, count: u16, first: u16) -> usize
+    requires { ⌜ at + length (firstField count first) ≤ length (now out) ⌝ }
+    ensures { λ r. ⌜ Written (now (out .entry)) at (firstField count first) (now (out .exit)) r ⌝ }
 {
-    let a = put_decimal(out, at, place);
-    let b = put_byte(out, a, 32);
-    let c = put_decimal(out, b, count);
+    if count == 0 {
+        return at;
+    }
+    text::put_field(out, at, b" ", first)
+}
+
+fn frame_line(
+    out: &mut [u8],
+    at: usize,
+    place: u16,
+    count: u16,
+    rounds: u16,
+    clean: bool,
+    bits: &[u8],
+    first: u16,
+) -> usize
+    requires { ⌜ at + length (frameLine place count rounds clean (now bits) first) ≤ length (now out) ⌝ }
+    ensures { λ r. ⌜ Written (now (out .entry)) at (frameLine place count rounds clean (now (bits .entry)) first) (now (out .exit)) r ⌝ }
+{
+    let a = text::put_decimal(out, at, place);
+    let b = text::put_field(out, a, b" ", count);
+    let c = text::put_field(out, b, b" ", rounds);
     let d = clean_or_open(out, c, clean);
-    let e = put_hex(out, d, bits);
-    put_byte(out, e, 10)
+    let e = text::put_hex(out, d, bits);
+    let f = first_field(out, e, count, first);
+    text::put_byte(out, f, 10)
 }
 
-// Whether the frame that pair j names is clean, with that count and these bits.
-fn clean_at(code: u32, values: &[f32], pairs: &[u32], j: usize, count: u16, bits: &[u8]) -> bool
-    requires { ⌜ AllWithin (sizeN code) (length (now values)) (callPairs (now pairs)) ⌝ }
-    requires { ⌜ j < length (callPairs (now pairs)) ⌝ }
-    requires { ⌜ length (now bits) ≡ sizeK code ⌝ }
-    ensures { λ r. ⌜ r ≡ frameClean code (getD (callFrames (now (values .entry)) (now (pairs .entry))) j []) count (now (bits .entry)) ⌝ }
-{
-    let from = pairs[j * 2] as usize;
-    let to = from + batch::frame_values(code);
-    clean::is_clean(code, &values[from..to], count, bits)
-}
-
-// The lines of the frames that the pairs name, of k bits each.
+// The lines of the frames that the pairs name.
 fn frame_lines(
     out: &mut [u8],
     at: usize,
     code: u32,
-    k: usize,
     values: &[f32],
     pairs: &[u32],
-    counts: &[u16],
     bits: &[u8],
+    counts: &[u16],
+    rounds: &[u16],
+    firsts: &[u16],
 ) -> usize
-    requires { ⌜ length (now counts) ≤ 24 ⌝ }
-    requires { ⌜ k ≡ sizeK code ⌝ }
-    requires { ⌜ AllWithin (sizeN code) (length (now values)) (callPairs (now pairs)) ⌝ }
-    requires { ⌜ length (now counts) ≡ length (callPairs (now pairs)) ⌝ }
-    requires { ⌜ length (now bits) ≡ length (now counts) * k ⌝ }
-    requires { ⌜ at + length (frameLines code k 0 (callFrames (now values) (now pairs)) (now counts) (now bits)) ≤ length (now out) ⌝ }
-    ensures { λ r. ⌜ Written (now (out .entry)) at (frameLines code k 0 (callFrames (now (values .entry)) (now (pairs .entry))) (now (counts .entry)) (now (bits .entry))) (now (out .exit)) r ⌝ }
+    requires { ⌜ AllWithin (sizeN code) (length (now values)) (pairsOf (now pairs)) ⌝ }
+    requires { ⌜ length (pairsOf (now pairs)) ≤ 24 ⌝ }
+    requires { ⌜ (length (now counts) ≡ length (pairsOf (now pairs))) × (length (now bits) ≡ length (pairsOf (now pairs)) * sizeK code) ⌝ }
+    requires { ⌜ (length (now rounds) ≡ length (pairsOf (now pairs))) × (length (now firsts) ≡ length (pairsOf (now pairs))) ⌝ }
+    requires { ⌜ at + 127 * length (pairsOf (now pairs)) ≤ length (now out) ⌝ }
+    ensures { λ r. ⌜ Written (now (out .entry)) at
+        (linesFrom (lineAt code (framesOf (now (values .entry)) (pairsOf (now (pairs .entry))))
+        (lent (now (bits .entry)) (now (counts .entry)) (now (rounds .entry)) (now (firsts .entry)) []))
+        0 (length (pairsOf (now (pairs .entry)))))
+        (now (out .exit)) r ⌝ }
 {
+    let k = batch::message_bits(code);
     let mut next = at;
     let mut from = 0;
     let mut j = 0;
     while j < counts.len() {
         let to = from + k;
-        let clean = clean_at(code, values, pairs, j, counts[j], &bits[from..to]);
-        next = frame_line(out, next, j as u16, counts[j], clean, &bits[from..to]);
+        let clean = clean_frames::clean_at(code, values, pairs, j, counts, bits);
+        next = frame_line(
+            out,
+            next,
+            j as u16,
+            counts[j],
+            rounds[j],
+            clean,
+            &bits[from..to],
+            firsts[j],
+        );
         from = to;
         j += 1;
     }
     next
 }
 
-fn refusal_line(out: &mut [u8], at: usize, number: u16) -> usize
-    requires { ⌜ at + length (refusalLine number) ≤ length (now out) ⌝ }
-    ensures { λ r. ⌜ Written (now (out .entry)) at (refusalLine number) (now (out .exit)) r ⌝ }
-{
-    let a = put_field(out, at, b"refused ", number);
-    put_byte(out, a, 10)
-}
-
-// ---- the input
-
-fn u16_at(s: &[u8], i: usize) -> u16
-    requires { ⌜ i + 2 ≤ length (now s) ⌝ }
-    ensures { λ r. ⌜ r ≡ u16At (now (s .entry)) i ⌝ }
-{
-    s[i] as u16 + 256 * (s[i + 1] as u16)
-}
-
-fn u32_at(s: &[u8], i: usize) -> u32
-    requires { ⌜ i + 4 ≤ length (now s) ⌝ }
-    ensures { λ r. ⌜ r ≡ u32At (now (s .entry)) i ⌝ }
-{
-    let low = u16_at(s, i);
-    let high = u16_at(s, i + 2);
-    low as u32 + 65536 * (high as u32)
-}
-
-// The float of the bits; a NaN's bits give a NaN that an operation makes.
-fn float_of(bits: u32) -> f32
-    ensures { λ r. ⌜ r ≡ floatOf bits ⌝ }
-{
-    if bits % 2147483648 > 2139095040 {
-        0.0 / 0.0
-    } else {
-        f32::from_bits(bits)
-    }
-}
-
-// The numbers from `at` on, as many as the slice has places.
-fn load_words(input: &[u8], at: usize, words: &mut [u32])
-    requires { ⌜ at + 4 * length (now words) ≤ length (now input) ⌝ }
-    ensures { λ _. ⌜ now (words .exit) ≡ u32sFrom (λ w. w) (now (input .entry)) at (length (now (words .entry))) ⌝ }
-{
-    let mut i = 0;
-    while i < words.len() {
-        words[i] = u32_at(input, at + 4 * i);
-        i += 1;
-    }
-}
-
-// The floats from `at` on, as many as the slice has places.
-fn load_values(input: &[u8], at: usize, values: &mut [f32])
-    requires { ⌜ at + 4 * length (now values) ≤ length (now input) ⌝ }
-    ensures { λ _. ⌜ now (values .exit) ≡ u32sFrom floatOf (now (input .entry)) at (length (now (values .entry))) ⌝ }
-{
-    let mut i = 0;
-    while i < values.len() {
-        values[i] = float_of(u32_at(input, at + 4 * i));
-        i += 1;
-    }
-}
-
-fn pair_count(input: &[u8]) -> usize
-    requires { ⌜ 12 ≤ length (now input) ⌝ }
-    ensures { λ r. ⌜ r ≡ pairCount (now (input .entry)) ⌝ }
-    ensures { λ r. ⌜ r < 65536 ⌝ }
-{
-    u16_at(input, 8) as usize
-}
-
-fn values_start(input: &[u8]) -> usize
-    requires { ⌜ 12 ≤ length (now input) ⌝ }
-    ensures { λ r. ⌜ r ≡ valuesStart (now (input .entry)) ⌝ }
-{
-    12 + 8 * pair_count(input)
-}
-
-fn is_malformed(input: &[u8]) -> bool
-    ensures { λ r. ⌜ r ≡ malformed (now (input .entry)) ⌝ }
-{
-    if input.len() > 65536 {
-        return true;
-    }
-    if input.len() < 12 {
-        return true;
-    }
-    if input[10] != 0 {
-        return true;
-    }
-    if input[11] != 0 {
-        return true;
-    }
-    let start = values_start(input);
-    if input.len() < start {
-        return true;
-    }
-    (input.len() - start) % 4 != 0
-}
-
 // ---- the listing
 
-// Room for the bits and the counts of 24 frames, for 25 pairs and for the values of the longest input: each ensures its length alone.
+// Room for the bits of 24 frames, for a number a frame, for 25 pairs and for the values of the longest input: each ensures its length alone.
 
 fn bits_room() -> [u8; 9216]
     ensures { λ r. ⌜ 9216 ≡ length r ⌝ }
@@ -314,7 +127,7 @@ fn bits_room() -> [u8; 9216]
     [0; 9216]
 }
 
-fn counts_room() -> [u16; 24]
+fn numbers_room() -> [u16; 24]
     ensures { λ r. ⌜ 24 ≡ length r ⌝ }
 {
     [0; 24]
@@ -346,17 +159,22 @@ fn decode_input(
     pairs: &[u32],
     bits: &mut [u8],
     counts: &mut [u16],
-) -> Batched
+    rounds: &mut [u16],
+    firsts: &mut [u16],
+    work: &mut [f32],
+) -> Status
     requires { ⌜ 12 ≤ length (now input) ⌝ }
-    ensures { λ r. ⌜ batchedOf r ≡ judged (callRefusals (now (input .entry)) (now (values .entry)) (now (pairs .entry)) (now (bits .entry)) (now (counts .entry))) tt ⌝ }
-    ensures { λ _. ⌜ now (bits .exit) ≡ kept (callRefusals (now (input .entry)) (now (values .entry)) (now (pairs .entry)) (now (bits .entry)) (now (counts .entry))) (now (bits .entry)) (callBits (now (input .entry)) (now (values .entry)) (now (pairs .entry))) ⌝ }
-    ensures { λ _. ⌜ now (counts .exit) ≡ kept (callRefusals (now (input .entry)) (now (values .entry)) (now (pairs .entry)) (now (bits .entry)) (now (counts .entry))) (now (counts .entry)) (callCounts (now (input .entry)) (now (values .entry)) (now (pairs .entry))) ⌝ }
+    ensures { λ r. ⌜ Answered
+        (batch (codeOf (now (input .entry))) (ruleOf (now (input .entry))) (limitOf (now (input .entry))) (scaleOf (now (input .entry)))
+        (now (values .entry)) (pairsOf (now (pairs .entry)))
+        (lent (now (bits .entry)) (now (counts .entry)) (now (rounds .entry)) (now (firsts .entry)) (now (work .entry))))
+        (statusOf r)
+        (lent (now (bits .exit)) (now (counts .exit)) (now (rounds .exit)) (now (firsts .exit)) (now (work .exit))) ⌝ }
 {
     let code = input[0] as u32;
     let rule = input[1] as u32;
-    let limit = u16_at(input, 2);
-    let scale = float_of(u32_at(input, 4));
-    let mut work = [0.0f32; 3070];
+    let limit = batch_input::u16_at(input, 2);
+    let scale = batch_input::float_of(batch_input::u32_at(input, 4));
     batch::decode_batch(
         code,
         rule,
@@ -366,96 +184,92 @@ fn decode_input(
         pairs,
         bits,
         counts,
-        &mut work,
+        rounds,
+        firsts,
+        work,
     )
 }
 
-// The head line and the frames' lines.
+// The head line and the frames' lines of a batch that was accepted: so many pairs name frames within the values.
 fn write_frames(
     input: &[u8],
-    k: usize,
     values: &[f32],
     pairs: &[u32],
-    counts: &[u16],
     bits: &[u8],
+    counts: &[u16],
+    rounds: &[u16],
+    firsts: &[u16],
     out: &mut [u8],
 ) -> usize
-    requires { ⌜ 12 ≤ length (now input) ⌝ }
-    requires { ⌜ length (now counts) ≤ 24 ⌝ }
-    requires { ⌜ k ≡ sizeK (codeOf (now input)) ⌝ }
-    requires { ⌜ AllWithin (sizeN (codeOf (now input))) (length (now values)) (callPairs (now pairs)) ⌝ }
-    requires { ⌜ length (now counts) ≡ length (callPairs (now pairs)) ⌝ }
-    requires { ⌜ length (now bits) ≡ length (now counts) * k ⌝ }
-    requires { ⌜ length (framesText (now input) k (callFrames (now values) (now pairs)) (now counts) (now bits)) ≤ length (now out) ⌝ }
-    ensures { λ r. ⌜ Written (now (out .entry)) 0 (framesText (now (input .entry)) k (callFrames (now (values .entry)) (now (pairs .entry))) (now (counts .entry)) (now (bits .entry))) (now (out .exit)) r ⌝ }
+    requires { ⌜ (12 ≤ length (now input)) × (pairCount (now input) ≡ length (pairsOf (now pairs))) ⌝ }
+    requires { ⌜ AllWithin (sizeN (codeOf (now input))) (length (now values)) (pairsOf (now pairs)) ⌝ }
+    requires { ⌜ length (pairsOf (now pairs)) ≤ 24 ⌝ }
+    requires { ⌜ (length (now counts) ≡ length (pairsOf (now pairs))) × (length (now bits) ≡ length (pairsOf (now pairs)) * sizeK (codeOf (now input))) ⌝ }
+    requires { ⌜ (length (now rounds) ≡ length (pairsOf (now pairs))) × (length (now firsts) ≡ length (pairsOf (now pairs))) ⌝ }
+    requires { ⌜ 4096 ≤ length (now out) ⌝ }
+    ensures { λ r. ⌜ Written (now (out .entry)) 0
+        (framesText
+        (batch (codeOf (now (input .entry))) (ruleOf (now (input .entry))) (limitOf (now (input .entry))) (scaleOf (now (input .entry)))
+        (now (values .entry)) (pairsOf (now (pairs .entry))) (lent [] [] [] [] []))
+        (lent (now (bits .entry)) (now (counts .entry)) (now (rounds .entry)) (now (firsts .entry)) []))
+        (now (out .exit)) r ⌝ }
 {
     let code = input[0];
     let rule = input[1] as u16;
-    let limit = u16_at(input, 2);
-    let frames = u16_at(input, 8);
+    let limit = batch_input::u16_at(input, 2);
+    let frames = batch_input::u16_at(input, 8);
     let at = head_line(out, 0, code as u16, rule, limit, frames);
-    frame_lines(out, at, code as u32, k, values, pairs, counts, bits)
-}
-
-// The batch's answer as text: the frames' lines where it is accepted, and its pairs lie within the values.
-fn write_answer(
-    answer: Batched,
-    input: &[u8],
-    k: usize,
-    values: &[f32],
-    pairs: &[u32],
-    counts: &[u16],
-    bits: &[u8],
-    out: &mut [u8],
-) -> usize
-    requires { ⌜ 12 ≤ length (now input) ⌝ }
-    requires { ⌜ length (now counts) ≤ 24 ⌝ }
-    requires { ⌜ k ≡ sizeK (codeOf (now input)) ⌝ }
-    requires { ⌜ (batchedOf answer ≡ accepted tt → AllWithin (sizeN (codeOf (now input))) (length (now values)) (callPairs (now pairs)) × (length (now counts) ≡ length (callPairs (now pairs)))) ⌝ }
-    requires { ⌜ length (now bits) ≡ length (now counts) * k ⌝ }
-    requires { ⌜ 4096 ≤ length (now out) ⌝ }
-    ensures { λ r. ⌜ Written (now (out .entry)) 0 (printed (withText (batchedOf answer) (framesText (now (input .entry)) k (callFrames (now (values .entry)) (now (pairs .entry))) (now (counts .entry)) (now (bits .entry))))) (now (out .exit)) r ⌝ }
-    ensures { λ r. ⌜ r ≤ 4096 ⌝ }
-{
-    match answer {
-        Batched::Done => write_frames(input, k, values, pairs, counts, bits, out),
-        Batched::Refused(r) => refusal_line(out, 0, refusal::number(r) as u16),
-    }
+    frame_lines(
+        out,
+        at,
+        code as u32,
+        values,
+        pairs,
+        bits,
+        counts,
+        rounds,
+        firsts,
+    )
 }
 
 // The listing of an input that is not malformed, its values and pairs read.
 fn list_frames(input: &[u8], values: &[f32], pairs: &[u32], out: &mut [u8]) -> usize
     requires { ⌜ malformed (now input) ≡ false ⌝ }
     requires { ⌜ now values ≡ valuesOf (now input) ⌝ }
-    requires { ⌜ now pairs ≡ take 50 (pairsOf (now input)) ⌝ }
+    requires { ⌜ now pairs ≡ take 50 (pairNumbers (now input)) ⌝ }
     requires { ⌜ 4096 ≤ length (now out) ⌝ }
     ensures { λ r. ⌜ Written (now (out .entry)) 0 (listingOf (now (input .entry))) (now (out .exit)) r ⌝ }
     ensures { λ r. ⌜ r ≤ 4096 ⌝ }
 {
-    let n = frames_held(pair_count(input));
-    let k = batch::message_bits(input[0] as u32);
-    let size = n * k;
+    let n = frames_held(batch_input::pair_count(input));
+    let size = n * batch::message_bits(input[0] as u32);
     let mut bits = bits_room();
-    let mut counts = counts_room();
-    let answer = decode_input(input, values, pairs, &mut bits[..size], &mut counts[..n]);
-    write_answer(
-        answer,
+    let mut counts = numbers_room();
+    let mut rounds = numbers_room();
+    let mut firsts = numbers_room();
+    let mut work = [0.0f32; WORK];
+    if let Status::Refused(r) = decode_input(
         input,
-        k,
         values,
         pairs,
-        &counts[..n],
+        &mut bits[..size],
+        &mut counts[..n],
+        &mut rounds[..n],
+        &mut firsts[..n],
+        &mut work,
+    ) {
+        return text::refusal_line(out, 0, refusal::number(r) as u16);
+    }
+    write_frames(
+        input,
+        values,
+        pairs,
         &bits[..size],
+        &counts[..n],
+        &rounds[..n],
+        &firsts[..n],
         out,
     )
-}
-
-// The number of words of the pairs handed on.
-fn words_passed(frames: usize) -> usize
-    requires { ⌜ frames < 65536 ⌝ }
-    ensures { λ r. ⌜ r ≡ min 50 (2 * frames) ⌝ }
-{
-    if frames < 25 { 2 * frames } else { 50 }
 }
 
 // The listing of an input that is not malformed.
@@ -466,12 +280,9 @@ fn list_input(input: &[u8], out: &mut [u8]) -> usize
     ensures { λ r. ⌜ r ≤ 4096 ⌝ }
 {
     let mut pairs = pairs_room();
-    let words = words_passed(pair_count(input));
-    load_words(input, 12, &mut pairs[..words]);
+    let words = batch_input::read_pairs(input, &mut pairs);
     let mut values = values_room();
-    let start = values_start(input);
-    let n = (input.len() - start) / 4;
-    load_values(input, start, &mut values[..n]);
+    let n = batch_input::read_values(input, &mut values);
     list_frames(input, &values[..n], &pairs[..words], out)
 }
 
@@ -481,8 +292,8 @@ pub fn list(input: &[u8], out: &mut [u8]) -> usize
     ensures { λ r. ⌜ Written (now (out .entry)) 0 (listingOf (now (input .entry))) (now (out .exit)) r ⌝ }
     ensures { λ r. ⌜ r ≤ 4096 ⌝ }
 {
-    if is_malformed(input) {
-        return refusal_line(out, 0, 13);
+    if batch_input::is_malformed(input) {
+        return text::refusal_line(out, 0, 13);
     }
     list_input(input, out)
 }

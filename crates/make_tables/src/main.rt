@@ -138,10 +138,10 @@ fn print_n512r12() {
         &check_bits,
     );
     print_table(
-        b"\npub const N512R12_EDGE_STARTS: [u16; 513] = [\n",
+        b"\npub const N512R12_BIT_STARTS: [u16; 513] = [\n",
         &edge_starts,
     );
-    print_table(b"\npub const N512R12_EDGES: [u16; 1279] = [\n", &edges);
+    print_table(b"\npub const N512R12_BIT_EDGES: [u16; 1279] = [\n", &edges);
 }
 
 fn print_n576r23() {
@@ -163,10 +163,10 @@ fn print_n576r23() {
         &check_bits,
     );
     print_table(
-        b"\npub const N576R23_EDGE_STARTS: [u16; 577] = [\n",
+        b"\npub const N576R23_BIT_STARTS: [u16; 577] = [\n",
         &edge_starts,
     );
-    print_table(b"\npub const N576R23_EDGES: [u16; 1535] = [\n", &edges);
+    print_table(b"\npub const N576R23_BIT_EDGES: [u16; 1535] = [\n", &edges);
 }
 
 fn print_n512r34() {
@@ -188,10 +188,10 @@ fn print_n512r34() {
         &check_bits,
     );
     print_table(
-        b"\npub const N512R34_EDGE_STARTS: [u16; 513] = [\n",
+        b"\npub const N512R34_BIT_STARTS: [u16; 513] = [\n",
         &edge_starts,
     );
-    print_table(b"\npub const N512R34_EDGES: [u16; 1407] = [\n", &edges);
+    print_table(b"\npub const N512R34_BIT_EDGES: [u16; 1407] = [\n", &edges);
 }
 
 fn main() {

@@ -4,8 +4,9 @@ ghost use mathlib.Core.List.{[], _∷_};
 ghost use Prim.Native.Nat.{_≤_, _*_};
 ghost use lib.ListN.{length, take};
 ghost use Rattle.refusal.specs.Outcome.{judged, kept};
+ghost use Rattle.refusal.specs.Answers.{statusOf};
 ghost use Rattle.belief.specs.Graph.{cleared};
-ghost use Rattle.batch.specs.Calls.{batchedOf, batchRefusals, batchBits, batchCounts};
+ghost use Rattle.batch.specs.Calls.{batchRefusals, batchBits, batchCounts};
 ghost use Rattle.records.specs.Fields.{fieldsOf, lookedAt, laid};
 ghost use Rattle.records.specs.Answered.{Answered};
 
@@ -51,7 +52,7 @@ fn decode_flat(
     bits: &mut [u8],
     counts: &mut [u16],
     work: &mut [f32],
-) -> batch::Batched
+) -> Status
     requires { ⌜ n * 2 ≤ length (now flat) ⌝ }
     ensures { λ r. ⌜ Answered code rule limit scale (now (values .entry)) (take (n * 2) (now (flat .entry))) (now (bits .entry)) (now (counts .entry)) (now (work .entry)) r (now (bits .exit)) (now (counts .exit)) (now (work .exit)) ⌝ }
 {
@@ -79,8 +80,8 @@ pub fn decode_pairs(
     bits: &mut [u8],
     counts: &mut [u16],
     work: &mut [f32],
-) -> batch::Batched
-    ensures { λ r. ⌜ batchedOf r ≡ judged (batchRefusals code rule (now (values .entry)) (fieldsOf (now (pairs .entry))) (now (bits .entry)) (now (counts .entry)) (now (work .entry))) tt ⌝ }
+) -> Status
+    ensures { λ r. ⌜ statusOf r ≡ judged (batchRefusals code rule (now (values .entry)) (fieldsOf (now (pairs .entry))) (now (bits .entry)) (now (counts .entry)) (now (work .entry))) tt ⌝ }
     ensures { λ _. ⌜ now (bits .exit) ≡ kept (batchRefusals code rule (now (values .entry)) (fieldsOf (now (pairs .entry))) (now (bits .entry)) (now (counts .entry)) (now (work .entry))) (now (bits .entry)) (batchBits code rule scale limit (now (values .entry)) (fieldsOf (now (pairs .entry)))) ⌝ }
     ensures { λ _. ⌜ now (counts .exit) ≡ kept (batchRefusals code rule (now (values .entry)) (fieldsOf (now (pairs .entry))) (now (bits .entry)) (now (counts .entry)) (now (work .entry))) (now (counts .entry)) (batchCounts code rule scale limit (now (values .entry)) (fieldsOf (now (pairs .entry)))) ⌝ }
     ensures { λ _. ⌜ now (work .exit) ≡ kept (batchRefusals code rule (now (values .entry)) (fieldsOf (now (pairs .entry))) (now (bits .entry)) (now (counts .entry)) (now (work .entry))) (now (work .entry)) (cleared (now (work .entry))) ⌝ }
@@ -114,8 +115,8 @@ pub fn decode_one_pair(
     bits: &mut [u8],
     counts: &mut [u16],
     work: &mut [f32],
-) -> batch::Batched
-    ensures { λ r. ⌜ batchedOf r ≡ judged (batchRefusals code rule (now (values .entry)) (offset ∷ length ∷ []) (now (bits .entry)) (now (counts .entry)) (now (work .entry))) tt ⌝ }
+) -> Status
+    ensures { λ r. ⌜ statusOf r ≡ judged (batchRefusals code rule (now (values .entry)) (offset ∷ length ∷ []) (now (bits .entry)) (now (counts .entry)) (now (work .entry))) tt ⌝ }
     ensures { λ _. ⌜ now (bits .exit) ≡ kept (batchRefusals code rule (now (values .entry)) (offset ∷ length ∷ []) (now (bits .entry)) (now (counts .entry)) (now (work .entry))) (now (bits .entry)) (batchBits code rule scale limit (now (values .entry)) (offset ∷ length ∷ [])) ⌝ }
     ensures { λ _. ⌜ now (counts .exit) ≡ kept (batchRefusals code rule (now (values .entry)) (offset ∷ length ∷ []) (now (bits .entry)) (now (counts .entry)) (now (work .entry))) (now (counts .entry)) (batchCounts code rule scale limit (now (values .entry)) (offset ∷ length ∷ [])) ⌝ }
     ensures { λ _. ⌜ now (work .exit) ≡ kept (batchRefusals code rule (now (values .entry)) (offset ∷ length ∷ []) (now (bits .entry)) (now (counts .entry)) (now (work .entry))) (now (work .entry)) (cleared (now (work .entry))) ⌝ }

@@ -1,4 +1,4 @@
-// The refusals that every call shares: one case for each condition of document 01's table and of the change requests.
+// What every call shares: the refusals, one case for each condition of document 01's table and of the change requests, and the two shapes of an answer.
 ghost use mathlib.Core.Path.{_≡_};
 ghost use Rattle.refusal.specs.Numbers.{numberOf};
 
@@ -18,9 +18,23 @@ pub enum Refusal {
     Malformed,
     SumPastLimit,
     NoFrames,
-    UnknownByte,
+    ErasureByte,
     ByteOutOfRange,
     NotEighths,
+    NoSuchPlace,
+    GroupSizes,
+}
+
+// The answer of a call that only writes: it is done, or turned down.
+pub enum Status {
+    Done,
+    Refused(Refusal),
+}
+
+// The answer of a call that gives a number, or is turned down.
+pub enum Answer {
+    Value(u16),
+    Refused(Refusal),
 }
 
 // The refusal's number.
@@ -43,8 +57,10 @@ pub fn number(r: Refusal) -> u8
         Refusal::Malformed => 13,
         Refusal::SumPastLimit => 14,
         Refusal::NoFrames => 15,
-        Refusal::UnknownByte => 16,
+        Refusal::ErasureByte => 16,
         Refusal::ByteOutOfRange => 17,
         Refusal::NotEighths => 18,
+        Refusal::NoSuchPlace => 19,
+        Refusal::GroupSizes => 20,
     }
 }

@@ -3,7 +3,7 @@ use mathlib.Core.Path.{_≡_, refl, sym, ap, _∙_}
 use mathlib.Core.List.{List, [], _∷_, reverse}
 use Prim.Native.Nat.{ℕ}
 use native.Mathlib.Omega.{arith}
-use Rattle.generator.specs.Draw.{draw, xor, mixed}
+use Rattle.xorshift.specs.Draw.{draw, xor, mixed}
 use Rattle.construction.specs.Columns.{Made, holds, settled, sorted, insert, upFrom, firstOutside, finished, made, rowsOf, laidBefore}
 use Rattle.construction.specs.Quick.{marked, markedIf, markedBy, marksOf, lessOf, met, scan, foundIn, quickSearch, quickPick, loaded, quickOnePick, quickPicks, quickFinished, quickColumn, quickColumns, quick}
 use Rattle.construction.specs.Codes.{n512r12, n576r23, n512r34, messageRows, relaxedPicks}

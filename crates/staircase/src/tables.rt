@@ -2313,7 +2313,7 @@ pub const N512R12_CHECK_BITS: [u16; 1279] = [
     510,
 ];
 
-pub const N512R12_EDGE_STARTS: [u16; 513] = [
+pub const N512R12_BIT_STARTS: [u16; 513] = [
     0,
     3,
     6,
@@ -2829,7 +2829,7 @@ pub const N512R12_EDGE_STARTS: [u16; 513] = [
     1279,
 ];
 
-pub const N512R12_EDGES: [u16; 1279] = [
+pub const N512R12_BIT_EDGES: [u16; 1279] = [
     204,
     499,
     979,
@@ -7000,7 +7000,7 @@ pub const N576R23_CHECK_BITS: [u16; 1535] = [
     574,
 ];
 
-pub const N576R23_EDGE_STARTS: [u16; 577] = [
+pub const N576R23_BIT_STARTS: [u16; 577] = [
     0,
     3,
     6,
@@ -7580,7 +7580,7 @@ pub const N576R23_EDGE_STARTS: [u16; 577] = [
     1535,
 ];
 
-pub const N576R23_EDGES: [u16; 1535] = [
+pub const N576R23_BIT_EDGES: [u16; 1535] = [
     295,
     511,
     1063,
@@ -11815,7 +11815,7 @@ pub const N512R34_CHECK_BITS: [u16; 1407] = [
     510,
 ];
 
-pub const N512R34_EDGE_STARTS: [u16; 513] = [
+pub const N512R34_BIT_STARTS: [u16; 513] = [
     0,
     3,
     6,
@@ -12331,7 +12331,7 @@ pub const N512R34_EDGE_STARTS: [u16; 513] = [
     1407,
 ];
 
-pub const N512R34_EDGES: [u16; 1407] = [
+pub const N512R34_BIT_EDGES: [u16; 1407] = [
     648,
     780,
     1121,

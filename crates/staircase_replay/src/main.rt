@@ -1,23 +1,24 @@
-// Replays the Rust's answers for the staircase codes: the rows that the construction gives when it runs, the tables, and encodings and counts of the
-// words of the file stdin, 576 bytes each. The file stdout holds what the Rust printed (tools/staircase_replay.rs).
+// Replays the Rust's answers for the staircase codes: the rows that the construction gives when it runs, the tables, and encodings, counts
+// and first checks of the words of the file stdin, 576 bytes each. The file stdout holds what the Rust printed (tools/staircase_replay.rs).
 use construction::codes::N512R12;
 use construction::codes::N512R34;
 use construction::codes::N576R23;
-use ldpc_codes::Encoding;
-use ldpc_codes::Weight;
 use libc::STDOUT_FILENO;
+use refusal::Status;
+use staircase::tables::N512R12_BIT_EDGES;
+use staircase::tables::N512R12_BIT_STARTS;
 use staircase::tables::N512R12_CHECK_BITS;
 use staircase::tables::N512R12_CHECK_STARTS;
-use staircase::tables::N512R12_EDGE_STARTS;
-use staircase::tables::N512R12_EDGES;
+use staircase::tables::N512R34_BIT_EDGES;
+use staircase::tables::N512R34_BIT_STARTS;
 use staircase::tables::N512R34_CHECK_BITS;
 use staircase::tables::N512R34_CHECK_STARTS;
-use staircase::tables::N512R34_EDGE_STARTS;
-use staircase::tables::N512R34_EDGES;
+use staircase::tables::N576R23_BIT_EDGES;
+use staircase::tables::N576R23_BIT_STARTS;
 use staircase::tables::N576R23_CHECK_BITS;
 use staircase::tables::N576R23_CHECK_STARTS;
-use staircase::tables::N576R23_EDGE_STARTS;
-use staircase::tables::N576R23_EDGES;
+use tanner::Counting;
+use tanner::FirstCheck;
 
 fn wide(byte: u8) -> u64 {
     byte as u64
@@ -73,32 +74,45 @@ fn print_checks() {
 }
 
 fn print_edges() {
-    print_table(&N512R12_EDGE_STARTS);
-    print_table(&N512R12_EDGES);
-    print_table(&N576R23_EDGE_STARTS);
-    print_table(&N576R23_EDGES);
-    print_table(&N512R34_EDGE_STARTS);
-    print_table(&N512R34_EDGES);
+    print_table(&N512R12_BIT_STARTS);
+    print_table(&N512R12_BIT_EDGES);
+    print_table(&N576R23_BIT_STARTS);
+    print_table(&N576R23_BIT_EDGES);
+    print_table(&N512R34_BIT_STARTS);
+    print_table(&N512R34_BIT_EDGES);
 }
 
-fn print_weight(w: Weight) {
-    match w {
-        Weight::Count(n) => {
-            io::print_hex(STDOUT_FILENO, n as u64, 4);
+fn print_first(first: FirstCheck) {
+    match first {
+        FirstCheck::Check(check) => {
+            io::print_hex(STDOUT_FILENO, check as u64, 4);
         }
-        Weight::Refused(_) => {
+        FirstCheck::Satisfied => {
+            io::write_all(STDOUT_FILENO, b"----");
+        }
+    }
+}
+
+fn print_weight(w: Counting) {
+    match w {
+        Counting::Counted(counted) => {
+            io::print_hex(STDOUT_FILENO, counted.count as u64, 4);
+            let first = counted.first;
+            print_first(first);
+        }
+        Counting::Refused(_) => {
             io::write_all(STDOUT_FILENO, b"refused");
         }
     }
 }
 
 // The codeword of a message, where it is not refused.
-fn print_encoding(code: u8, message: &[u8], codeword: &mut [u8]) {
+fn print_encoding(code: u32, message: &[u8], codeword: &mut [u8]) {
     match ldpc_codes::encode(code, message, codeword) {
-        Encoding::Written => {
+        Status::Done => {
             print_bytes(codeword);
         }
-        Encoding::Refused(_) => {
+        Status::Refused(_) => {
             io::write_all(STDOUT_FILENO, b"refused");
         }
     }

@@ -4,7 +4,7 @@ use mathlib.Core.List.{List, [], _∷_}
 use Prim.Native.Nat.{ℕ, zero, suc, _+_, _%_, _^_, _<_, _≤_}
 use native.Mathlib.Omega.{arith}
 use lib.Bits.{bitAnd, bitXor, and-mask, xor-add-and, xor-lt}
-use lib.ListN.{length, getD, take, List·getD-map}
+use lib.ListN.{length, getD, take, length-map, List·getD-map}
 use lib.Seq.{getD-take}
 use Rattle.tanner.specs.Checks.{Word, Checks, parity, count, lowBits, xorFrom, nonzero, countBytes, countMasked}
 use Rattle.tanner.specs.Flat.{Below}
@@ -26,6 +26,10 @@ count-bound (c ∷ cs) w = omega (arith, parity-bit c w, count-bound cs w)
 pub low-at : (bytes : List ℕ) (p : ℕ) → getD (lowBits bytes) p 0 ≡ getD bytes p 0 % 2
 unfolding lowBits
 low-at bytes p = List·getD-map (λ (b : ℕ). b % 2) bytes p 0
+
+pub low-length : (bytes : List ℕ) → length (lowBits bytes) ≡ length bytes
+unfolding lowBits
+low-length bytes = length-map bytes (λ (b : ℕ). b % 2)
 
 xor-low : (a b : ℕ) → bitXor a b % 2 ≡ (a + b) % 2
 xor-low a b = omega (arith, xor-add-and a b)
@@ -49,14 +53,18 @@ nonzero-bit zero h = refl
 nonzero-bit (suc zero) h = refl
 nonzero-bit (suc (suc x)) h = absurd (omega arith)
 
-pub low-count : (cs : Checks) (bytes : List ℕ) → countMasked 1 cs bytes ≡ count cs (lowBits bytes)
-unfolding countMasked count
-low-count [] bytes = refl
-low-count (c ∷ cs) bytes =
+-- of one check
+pub low-check : (c bytes : List ℕ) → nonzero (bitAnd (xorFrom 0 c bytes) 1) ≡ parity c (lowBits bytes)
+low-check c bytes =
     let b : bitAnd (xorFrom 0 c bytes) 1 ≡ parity c (lowBits bytes) =
     omega (arith, and-mask (xorFrom 0 c bytes) 1, xor-parity 0 c bytes, parity-bit c (lowBits bytes))
     in
-    rw (b, low-count cs bytes, nonzero-bit (parity c (lowBits bytes)) (parity-bit c (lowBits bytes)))
+    rw b (nonzero-bit (parity c (lowBits bytes)) (parity-bit c (lowBits bytes)))
+
+pub low-count : (cs : Checks) (bytes : List ℕ) → countMasked 1 cs bytes ≡ count cs (lowBits bytes)
+unfolding countMasked count
+low-count [] bytes = refl
+low-count (c ∷ cs) bytes = rw (low-check c bytes, low-count cs bytes)
 
 -- ---- whole bytes
 
@@ -72,14 +80,18 @@ xor-below k n e x [] bytes h l = h
 xor-below k n e x (p ∷ ps) bytes h l =
     xor-below k n e (bitXor x (getD bytes p 0)) ps bytes (xor-lt k x (getD bytes p 0) h (rw e (below-at n bytes p l))) l
 
-pub byte-count : (cs : Checks) (bytes : List ℕ) → Below 256 bytes → countMasked 255 cs bytes ≡ countBytes cs bytes
-unfolding countMasked countBytes
-byte-count [] bytes l = refl
-byte-count (c ∷ cs) bytes l =
+-- of one check
+pub byte-check : (c bytes : List ℕ) → Below 256 bytes → nonzero (bitAnd (xorFrom 0 c bytes) 255) ≡ nonzero (xorFrom 0 c bytes)
+byte-check c bytes l =
     let b : bitAnd (xorFrom 0 c bytes) 255 ≡ xorFrom 0 c bytes =
     omega (arith, and-mask (xorFrom 0 c bytes) 8, xor-below 8 255 refl 0 c bytes (omega arith) l)
     in
-    rw (b, byte-count cs bytes l)
+    rw b
+
+pub byte-count : (cs : Checks) (bytes : List ℕ) → Below 256 bytes → countMasked 255 cs bytes ≡ countBytes cs bytes
+unfolding countMasked countBytes
+byte-count [] bytes l = refl
+byte-count (c ∷ cs) bytes l = rw (byte-check c bytes l, byte-count cs bytes l)
 
 -- on words of bits, whole bytes and low bits count alike
 

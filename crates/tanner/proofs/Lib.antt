@@ -2,3 +2,4 @@ pub mod Count
 pub mod Flat
 pub mod Steps
 pub mod Places
+pub mod First

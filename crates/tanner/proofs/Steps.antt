@@ -1,14 +1,16 @@
 -- One turn of each counting loop: what is left to do, said of the rest of the list. Assumes nothing.
-use mathlib.Core.Path.{_≡_, sym, ap, _∙_}
+use mathlib.Core.Path.{_≡_, sym, ap, subst, _∙_}
 use mathlib.Core.List.{List, [], _∷_}
-use Prim.Native.Nat.{ℕ, _+_, _-_, _<_, _≤_}
+use mathlib.Core.Bool.{cond}
+use Prim.Native.Nat.{ℕ, suc, _+_, _-_, _<_, _≤_}
 use native.Mathlib.Numerals.{add-one}
 use native.Mathlib.Omega.{arith}
 use lib.Bits.{bitAnd, bitXor}
+use lib.Dec.{eqb}
 use lib.ListN.{length, getD, take, drop, drop-of-length-le, length-take, length-drop}
 use lib.Seq.{drop-cons, getD-take, getD-drop, take-all}
 use borrow.Author.Tests.{eq-eqb, ne-eqb}
-use Rattle.tanner.specs.Checks.{xorFrom, nonzero, countMasked}
+use Rattle.tanner.specs.Checks.{First, check, none, xorFrom, nonzero, countMasked, measured, firstBy}
 use Rattle.tanner.specs.Flat.{cut, rowsFrom, Below}
 
 pub xor-more : (ps bytes : List ℕ) (x i z : ℕ) → i < length ps → xorFrom x (drop i ps) bytes ≡ z
@@ -67,3 +69,22 @@ front-below m n l e below = rw (front-whole n l e) below
 
 pub front-xor : (x r n : ℕ) (l bytes : List ℕ) → length l ≡ n → r ≡ xorFrom x (take n l) bytes → r ≡ xorFrom x l bytes
 front-xor x r n l bytes e given = rw (front-whole n l e) at given
+
+-- ---- one turn of the scan for the first check
+
+module _ (mask : ℕ) (s f bytes : List ℕ) (c x : ℕ) (z : First) (h : c + 1 < length s)
+    (e : x ≡ xorFrom 0 (take (getD s (c + 1) 0 - getD s c 0) (drop (getD s c 0) f)) bytes)
+    (i : firstBy (measured mask bytes) c (rowsFrom s c f) ≡ z) where
+  scanned : cond (eqb (nonzero (bitAnd x mask)) 0) (firstBy (measured mask bytes) (suc c) (rowsFrom s (c + 1) f)) (check c) ≡ z
+  unfolding firstBy
+  scanned = rw e (rw (rows-more s f c h) at i)
+
+  pub first-here : (bitAnd x mask ≡ 0 → ⊥) → check c ≡ z
+  first-here n = simp (ne-eqb _ _ n) at scanned
+
+  pub first-later : bitAnd x mask ≡ 0 → firstBy (measured mask bytes) (c + 1) (rowsFrom s (c + 1) f) ≡ z
+  first-later n = subst (λ (k : ℕ). firstBy (measured mask bytes) k (rowsFrom s (c + 1) f) ≡ z) (sym (add-one c)) (simp (eq-eqb _ _ n) at scanned)
+
+pub first-nowhere : (mask : ℕ) (s f bytes : List ℕ) (c : ℕ) (z : First) → length s ≤ c + 1 → firstBy (measured mask bytes) c (rowsFrom s c f) ≡ z → none ≡ z
+unfolding firstBy
+first-nowhere mask s f bytes c z h e = rw (rows-done s f c h) at e

@@ -1,10 +1,11 @@
--- A code's checks, and the count of unsatisfied checks of a word: the definitions that every code shares.
+-- A code's checks, the count of unsatisfied checks of a word, and the first of them: the definitions that every code shares.
+use mathlib.Core.Path.{_≡_}
 use mathlib.Core.Bool.{cond}
 use mathlib.Core.List.{List, [], _∷_, map}
-use Prim.Native.Nat.{ℕ, _+_, _%_}
+use Prim.Native.Nat.{ℕ, suc, _+_, _%_, _<_}
 use lib.Bits.{bitAnd, bitXor}
 use lib.Dec.{eqb}
-use lib.ListN.{getD}
+use lib.ListN.{length, getD}
 
 -- one entry for each position
 abbrev pub Word : Type 0
@@ -46,3 +47,46 @@ countBytes (c ∷ cs) bytes = nonzero (xorFrom 0 c bytes) + countBytes cs bytes
 unfoldable pub countMasked : ℕ → Checks → List ℕ → ℕ
 countMasked mask [] bytes = 0
 countMasked mask (c ∷ cs) bytes = nonzero (bitAnd (xorFrom 0 c bytes) mask) + countMasked mask cs bytes
+
+-- ---- the first check that a count includes (change request N8)
+
+-- a check's number, counted from 0, or none
+pub data First : Type 0 where
+  check : ℕ → First
+  none : First
+
+-- the lowest-numbered check at which the measure is not 0; the first of the checks is number c
+unfoldable pub firstBy : (List ℕ → ℕ) → ℕ → Checks → First
+firstBy measure c [] = none
+firstBy measure c (r ∷ rs) = let more = firstBy measure (suc c) rs in cond (eqb (measure r) 0) more (check c)
+
+-- a count, and "the lowest-numbered check that the count includes, or none when it is 0"
+pub record Syndrome : Type 0 where
+  pub count : ℕ
+  pub first : First
+
+-- of a word of bits
+abbrev pub firstUnsatisfied : Checks → Word → First
+firstUnsatisfied cs w = firstBy (λ r. parity r w) 0 cs
+
+abbrev pub syndrome : Checks → Word → Syndrome
+syndrome cs w = record { count = count cs w; first = firstUnsatisfied cs w }
+
+-- by whole bytes
+abbrev pub syndromeOfBytes : Checks → List ℕ → Syndrome
+syndromeOfBytes cs bytes = record { count = countBytes cs bytes; first = firstBy (λ r. nonzero (xorFrom 0 r bytes)) 0 cs }
+
+-- what the code counts: 1 for a check whose bytes, XORed whole, have a bit of the mask
+abbrev pub measured : ℕ → List ℕ → List ℕ → ℕ
+measured mask bytes r = nonzero (bitAnd (xorFrom 0 r bytes) mask)
+
+abbrev pub firstMasked : ℕ → Checks → List ℕ → First
+firstMasked mask cs bytes = firstBy (measured mask bytes) 0 cs
+
+abbrev pub syndromeMasked : ℕ → Checks → List ℕ → Syndrome
+syndromeMasked mask cs bytes = record { count = countMasked mask cs bytes; first = firstMasked mask cs bytes }
+
+-- What it is to be the first: it is counted, and every check below it is not. None: no check is counted.
+pub data FirstIs (measure : List ℕ → ℕ) (cs : Checks) : First → Type 0 where
+  counted : (c : ℕ) → c < length cs → (measure (getD cs c []) ≡ 0 → ⊥) → ((j : ℕ) → j < c → measure (getD cs j []) ≡ 0) → FirstIs measure cs (check c)
+  satisfied : ((j : ℕ) → j < length cs → measure (getD cs j []) ≡ 0) → FirstIs measure cs none

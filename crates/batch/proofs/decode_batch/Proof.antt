@@ -1,63 +1,60 @@
--- `batch::decode_batch` meets its contract: the numbers and lengths, the pairs, and then the frames. Assumes nothing.
-use mathlib.Core.Path.{sym, ap, _∙_}
-use Rattle.batch.specs.Calls.{faultOf, batchRefusals}
-use Rattle.batch.proofs.Whole.{whole-head, whole-pairs, whole-good, pairs-within, all-refused, all-accepted}
+-- `batch::decode_batch` meets its contract: the tests, and then the frames. Assumes nothing.
+use mathlib.Core.Path.{_≡_, sym, ap, _∙_}
+use lib.ListN.{length}
+use Rattle.refusal.specs.Answers.{statusOf}
+use Rattle.refusal.proofs.Judged.{verdict, nothing}
+use Rattle.batch.specs.Pairs.{pairsOf}
+use Rattle.batch.specs.Calls.{lent, Batch, batch, roomOf, refusals}
+use Rattle.batch.proofs.Whole.{all-good, all-inside, turned-down, carried-out}
 use borrow.Author.Needs.{needs}
 use Rattle.batch.proofs.decode_batch.Statement.{statement}
 use Rattle.batch.proofs.decode_batch.Tie as tie
-use Rattle.batch.proofs.decode_batch.Reads as reads
-use Rattle.batch.proofs.decode_batch.Lts as lts
-use Rattle.batch.proofs.decode_frames.Reads as decode-frames-reads
-use Rattle.batch.proofs.frame_values.Reads as frame-values-reads
-use Rattle.batch.proofs.head_fault.Reads as head-fault-reads
-use Rattle.batch.proofs.pairs_fault.Reads as pairs-fault-reads
 
-head-fault-requires : tie.Need-head-fault-requires
-head-fault-requires c κs = search needs
+-- ---- places of the walk
+
+abbrev entry : tie.After-batch-fault → tie.Start
+entry c = c .before .before .before .before .before .before .before .before
+
+-- the batch as it is handed over, and what the tests found of it
+abbrev handed : tie.After-batch-fault → Batch
+handed c =
+    let a = entry c .args in
+    batch (a .code) (a .rule) (a .limit) (a .scale) (a .values .now) (pairsOf (a .pairs .now))
+    (lent (a .bits .now) (a .counts .now) (a .rounds .now) (a .firsts .now) (a .work .now))
+
+found : (c : tie.After-batch-fault) → verdict (refusals (handed c)) ≡ statusOf (c .batch-fault .result)
+found c = sym (c .batch-fault .ensures)
+
+-- nothing
+abbrev tested : tie.After-enum-told → tie.After-batch-fault
+tested c = c .before .before
+
+good : (c : tie.After-enum-told) → verdict (refusals (handed (tested c))) ≡ nothing
+good c = found (tested c) ∙ ap statusOf (c .enum-told .given .1)
+
+-- ---- the needs
+
+batch-fault-requires : tie.Need-batch-fault-requires
+batch-fault-requires c κs = search needs
 
 enum-known-r : tie.Need-enum-known-r
 enum-known-r c = search needs
 
 returns : tie.Need-returns
 returns c =
-    let fault = c .before .before .before in
-    let a = fault .before .before .before .before .before .before .args in
-    let v = whole-head (a .code) (a .rule) (a .values .now) (a .pairs .now) (a .bits .now) (a .counts .now) (a .work .now) _ (sym (fault .head-fault .ensures)) _ (ap faultOf (c .before .r .given .1)) in
-    all-refused (batchRefusals (a .code) (a .rule) (a .values .now) (a .pairs .now) (a .bits .now) (a .counts .now) (a .work .now)) (a .bits .now) _ (a .counts .now) _ (a .work .now) _ _ v
+    let t = c .before .before .before in
+    turned-down (handed t) _ (found t ∙ ap statusOf (c .before .r .given .1))
 
 enum-told : tie.Need-enum-told
 enum-told c = search needs
 
-frame-values-requires : tie.Need-frame-values-requires
-frame-values-requires c κs = search needs
-
-pairs-fault-requires : tie.Need-pairs-fault-requires
-pairs-fault-requires c κs = search needs
-
-enum-known-r-2 : tie.Need-enum-known-r-2
-enum-known-r-2 c = search needs
-
-returns-2 : tie.Need-returns-2
-returns-2 c =
-    let fault = c .before .before .before in
-    let told = fault .before .before in
-    let head = told .before .before in
-    let a = head .before .before .before .before .before .before .args in
-    let v = whole-pairs (a .code) (a .rule) (a .values .now) (a .pairs .now) (a .bits .now) (a .counts .now) (a .work .now) _ (sym (head .head-fault .ensures)) _ (ap faultOf (told .enum-told .given .1)) (fault .before .frame-values .ensures) in
-    all-refused (batchRefusals (a .code) (a .rule) (a .values .now) (a .pairs .now) (a .bits .now) (a .counts .now) (a .work .now)) (a .bits .now) _ (a .counts .now) _ (a .work .now) _ _ (v ∙ sym (fault .pairs-fault .ensures) ∙ ap faultOf (c .before .r2 .given .1))
-
-enum-told-2 : tie.Need-enum-told-2
-enum-told-2 c = search needs
-
 decode-frames-requires : tie.Need-decode-frames-requires
 decode-frames-requires c κs =
-    let fault = c .before .before .before .before .before in
-    let told = fault .before .before in
-    let head = told .before .before in
-    let a = head .before .before .before .before .before .before .args in
-    let good = whole-good (a .code) (a .rule) (a .values .now) (a .pairs .now) (a .bits .now) (a .counts .now) (a .work .now) _ (sym (head .head-fault .ensures)) (ap faultOf (told .enum-told .given .1)) in
-    let pairs = sym (fault .pairs-fault .ensures) ∙ ap faultOf (c .before .before .before .enum-told2 .given .1) in
-    (good .known, (pairs-within _ _ _ (a .pairs .now) (fault .before .frame-values .ensures) pairs, (good .room, (good .places, good .area))))
+    let e = c .before .before .before .before .before in
+    let b = handed (tested e) in
+    let g = all-good (b .code) (b .rule) (length (b .values)) (b .pairs) (roomOf (b .memory)) (good e) in
+    let inside = all-inside (b .code) (b .rule) (length (b .values)) (b .pairs) (roomOf (b .memory)) (good e) in
+    (g .known, (inside, (g .bits, (g .counts, ((g .rounds, g .firsts), g .area)))))
 
 same-length : tie.Need-same-length
 same-length c = search needs
@@ -68,34 +65,30 @@ same-length-2 c = search needs
 same-length-3 : tie.Need-same-length-3
 same-length-3 c = search needs
 
-returns-3 : tie.Need-returns-3
-returns-3 c =
-    let done = c .before .before .before .before .before .before in
-    let fault = done .before .before .before .before .before .before in
-    let told = fault .before .before in
-    let head = told .before .before in
-    let a = head .before .before .before .before .before .before .args in
-    let v = whole-pairs (a .code) (a .rule) (a .values .now) (a .pairs .now) (a .bits .now) (a .counts .now) (a .work .now) _ (sym (head .head-fault .ensures)) _ (ap faultOf (told .enum-told .given .1)) (fault .before .frame-values .ensures) in
-    let pairs = sym (fault .pairs-fault .ensures) ∙ ap faultOf (done .before .before .before .before .enum-told2 .given .1) in
-    let r = done .decode-frames .ensures in
-    let all = all-accepted (batchRefusals (a .code) (a .rule) (a .values .now) (a .pairs .now) (a .bits .now) (a .counts .now) (a .work .now)) (a .bits .now) _ (a .counts .now) _ (a .work .now) _ (v ∙ pairs) in
-    (all .0, (r .0 ∙ all .1 .0, (r .1 .0 ∙ all .1 .1 .0, r .1 .1 ∙ all .1 .1 .1)))
+same-length-4 : tie.Need-same-length-4
+same-length-4 c = search needs
+
+same-length-5 : tie.Need-same-length-5
+same-length-5 c = search needs
+
+returns-2 : tie.Need-returns-2
+returns-2 c =
+    let done = c .before .before .before .before .before .before .before .before .before .before in
+    let e = done .before .before .before .before .before .before in
+    carried-out (handed (tested e)) (good e) _ (done .decode-frames .ensures)
 
 pub decode-batch-spec : {M : Type 1} → statement M
 decode-batch-spec =
     tie.close
     (tie.spec
-    head-fault-requires
+    batch-fault-requires
     enum-known-r
     returns
     enum-told
-    frame-values-requires
-    pairs-fault-requires
-    enum-known-r-2
-    returns-2
-    enum-told-2
     decode-frames-requires
     same-length
     same-length-2
     same-length-3
-    returns-3)
+    same-length-4
+    same-length-5
+    returns-2)

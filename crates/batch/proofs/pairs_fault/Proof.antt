@@ -4,8 +4,9 @@ use Prim.Native.Nat.{_+_, _-_, _≤_}
 use native.Mathlib.Omega.{arith}
 use lib.ListN.{length, drop}
 use Rattle.batch.specs.Pairs.{pairsOf}
-use Rattle.batch.specs.Calls.{faultOf, pairRefusals}
-use Rattle.batch.proofs.Judged.{verdict}
+use Rattle.refusal.specs.Answers.{statusOf}
+use Rattle.refusal.proofs.Judged.{verdict}
+use Rattle.batch.specs.Calls.{pairRefusals}
 use Rattle.batch.proofs.Pairs.{pair-good, pair-bad, pairs-good}
 use borrow.Author.Needs.{needs}
 use Rattle.batch.proofs.pairs_fault.Statement.{statement}
@@ -57,7 +58,7 @@ returns : tie.Need-returns Inv-loop μ-loop
 returns c =
     let fault = c .before .before .before in
     let turn = fault .before .before .before in
-    pair-bad _ _ _ _ _ (turn .loop-test .taken) _ (turn .before .loop .inv .1) _ (sym (fault .pair-fault .ensures) ∙ ap faultOf (c .before .r .given .1))
+    pair-bad _ _ _ _ _ (turn .loop-test .taken) _ (turn .before .loop .inv .1) _ (sym (fault .pair-fault .ensures) ∙ ap statusOf (c .before .r .given .1))
 
 enum-told : tie.Need-enum-told Inv-loop μ-loop
 enum-told c = search needs
@@ -75,7 +76,7 @@ loop-again : tie.Need-loop-again Inv-loop μ-loop
 loop-again c =
     let fault = c .before .before in
     let turn = fault .before .before .before in
-    (omega arith, pair-good _ _ _ _ _ (turn .loop-test .taken) _ (turn .before .loop .inv .1) (sym (fault .pair-fault .ensures) ∙ ap faultOf (c .enum-told .given .1)))
+    (omega arith, pair-good _ _ _ _ _ (turn .loop-test .taken) _ (turn .before .loop .inv .1) (sym (fault .pair-fault .ensures) ∙ ap statusOf (c .enum-told .given .1)))
 
 returns-2 : tie.Need-returns-2 Inv-loop μ-loop
 returns-2 c = pairs-good _ _ _ _ _ _ (c .loop-test .left) (c .before .loop .inv .1)

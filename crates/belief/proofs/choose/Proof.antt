@@ -16,8 +16,8 @@ use Rattle.tanner.proofs.count_masked.Reads as count-masked-reads
 initial-word-requires : tie.Need-initial-word-requires
 initial-word-requires c κs = search needs
 
-count-masked-requires : tie.Need-count-masked-requires
-count-masked-requires c κs =
+counted-masked-requires : tie.Need-counted-masked-requires
+counted-masked-requires c κs =
     let first = c .before .before .before in
     let start = first .before .before .before .before .before .before .before .before .before .before in
     let a = start .args in
@@ -45,7 +45,7 @@ improve-requires c κs =
           initial-is (a .rule) (a .kind) (a .check-start .now) (a .check-bits .now) (a .llr .now) _ word,
           (
             omega (arith, size, start .pre .1 .1 .1),
-            initial-kept (a .rule) (a .kind) (a .check-start .now) (a .check-bits .now) (a .llr .now) _ _ _ _ _ word (counted .count-masked .ensures) (kept .keep-word .ensures) (sym size),
+            initial-kept (a .rule) (a .kind) (a .check-start .now) (a .check-bits .now) (a .llr .now) _ _ _ _ _ word (counted .counted-masked .ensures) (kept .keep-word .ensures) (sym size),
           ),
         ),
       ),
@@ -71,7 +71,7 @@ choose-spec =
     tie.close
     (tie.spec
     initial-word-requires
-    count-masked-requires
+    counted-masked-requires
     keep-word-requires
     improve-requires
     same-length

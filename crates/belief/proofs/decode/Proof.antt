@@ -6,7 +6,6 @@ use lib.Seq.{length-take-le}
 use Rattle.softmath.specs.Single.{zero32}
 use Rattle.belief.specs.Graph.{cleared}
 use Rattle.belief.proofs.Fill.{lent-part, lent-cleared}
-use Rattle.belief.proofs.Loop.{kept-count, kept-bits}
 use borrow.Author.Needs.{needs}
 use Rattle.belief.proofs.decode.Statement.{statement}
 use Rattle.belief.proofs.decode.Tie as tie
@@ -56,11 +55,8 @@ returns c =
     let cleared = c .before .before in
     let done = cleared .before .before .before .before .before .before .before in
     let start = done .before .before .before .before .before .before .before .before .before .before .before in (
-      kept-count _ _ _ _ _ (done .choose .ensures),
-      (
-        kept-bits _ _ _ _ _ (done .choose .ensures),
-        lent-cleared (start .args .work .now) (done .choose .last .1 .1 .1 .1 .1 .1 .1 .1 .0) (length (start .args .check-bits .now)) 3070 (done .choose .kept .1 .1 .1 .1 .1 .1 .1 .1 .0) (start .pre .0 .fits) (start .pre .1 .1 .1) zero32 _ (cleared .clear .ensures),
-      ),
+      done .choose .ensures,
+      lent-cleared (start .args .work .now) (done .choose .last .1 .1 .1 .1 .1 .1 .1 .1 .0) (length (start .args .check-bits .now)) 3070 (done .choose .kept .1 .1 .1 .1 .1 .1 .1 .1 .0) (start .pre .0 .fits) (start .pre .1 .1 .1) zero32 _ (cleared .clear .ensures),
     )
 
 pub decode-spec : {M : Type 1} → statement M

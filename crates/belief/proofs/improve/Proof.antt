@@ -6,14 +6,14 @@ use Rattle.belief.proofs.Whole.{run-none, run-some}
 use borrow.Author.Needs.{needs}
 use Rattle.belief.proofs.improve.Statement.{statement}
 use Rattle.belief.proofs.improve.Tie as tie
-use Rattle.belief.proofs.improve.Reads as reads
-use Rattle.belief.proofs.improve.Lts as lts
-use Rattle.belief.proofs.first_messages.Reads as first-messages-reads
-use Rattle.belief.proofs.rounds.Reads as rounds-reads
+
+-- the entry, from where the initial word's count is known
+abbrev entry : tie.After-struct-known → tie.Start
+entry c = c .before .before .before .before .before .before .before .before .before
 
 returns : tie.Need-returns
 returns c =
-    let start = c .before .before .before .before .before .before .before .before .before in
+    let start = entry (c .before) in
     let a = start .args in
     run-none (a .rule) (a .kind) (a .check-start .now) (a .check-bits .now) (a .llr .now) _ _ _ (start .pre .1 .1 .0) _ _ (c .if1 .taken) (start .pre .1 .1 .1 .1)
 
@@ -23,7 +23,7 @@ first-messages-requires c κs = search needs
 rounds-requires : tie.Need-rounds-requires
 rounds-requires c κs =
     let first = c .before .before .before .before .before in
-    let p = first .before .before .before .before .before .before .before .before .before .before .before .pre in
+    let p = entry (first .before .before .before) .pre in
     (p .0, (first .first-messages .kept .1 .1 .0 ∙ p .1 .0, (ap length (p .1 .1 .0) ∙ initial-length _, (p .1 .1 .1 .0, p .1 .1 .1 .1))))
 
 same-length : tie.Need-same-length
@@ -37,12 +37,13 @@ same-length-3 c = search needs
 
 returns-2 : tie.Need-returns-2
 returns-2 c =
-    let done = c .before .before .before .before .before .before in
-    let first = done .before .before .before .before .before .before in
-    let start = first .before .before .before .before .before .before .before .before .before .before .before in
+    let ran = c .before .before .before .before .before .before in
+    let first = ran .before .before .before .before .before .before in
+    let left = first .before .before in
+    let start = entry (left .before) in
     let a = start .args in
     run-some (a .rule) (a .kind) (a .check-start .now) (a .check-bits .now) (a .llr .now) _ _ _ (start .pre .1 .1 .0) _ _ (start .pre .0) _ _ _ _ _
-    (first .before .before .if1 .left) (start .pre .1 .1 .1 .1) (first .first-messages .ensures) (done .rounds .ensures)
+    (left .if1 .left) (start .pre .1 .1 .1 .1) (first .first-messages .ensures) (ran .rounds .ensures)
 
 pub improve-spec : {M : Type 1} → statement M
 improve-spec =

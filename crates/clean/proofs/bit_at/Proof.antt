@@ -4,9 +4,8 @@ use native.Mathlib.Nat.{mod-lt}
 use native.Mathlib.Omega.{arith}
 use lib.ListN.{List·getD-eq-default}
 use borrow.Author.Needs.{needs}
-use Rattle.tanner.proofs.Count.{low-at}
+use Rattle.tanner.proofs.Count.{low-at, low-length}
 use Rattle.tanner.specs.Checks.{lowBits}
-use Rattle.clean.proofs.Steps.{low-length}
 use Rattle.clean.proofs.bit_at.Statement.{statement}
 use Rattle.clean.proofs.bit_at.Tie as tie
 use Rattle.clean.proofs.bit_at.Reads as reads

@@ -4,7 +4,7 @@ use Prim.Native.Nat.{ℕ, _+_, _-_, _*_, _^_, _≤_, _<_}
 use native.Mathlib.Omega.{arith}
 use lib.ListN.{length, take}
 use borrow.Author.Needs.{needs}
-use Rattle.crc.specs.Bits.{number, numberAfter}
+use Rattle.bits.specs.Bits.{number, numberAfter}
 use Rattle.tanner.specs.Checks.{lowBits}
 use Rattle.clean.proofs.Steps.{number-more, all-digits, below-pow, room}
 use Rattle.clean.proofs.number_of.Statement.{statement}

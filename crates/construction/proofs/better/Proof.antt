@@ -1,13 +1,13 @@
 -- `construction::better` meets its contract: each way out is one case of a row that is met. Assumes nothing.
 use mathlib.Core.Path.{ap}
+use Prim.Native.Nat.{_<_}
+use lib.ListN.{length}
 use native.Mathlib.Omega.{arith}
 use Rattle.construction.specs.Tables.{Below, foundOf}
 use Rattle.construction.proofs.Searches.{below-row, met-skipped, met-only, met-less, met-other}
 use borrow.Author.Needs.{needs}
 use Rattle.construction.proofs.better.Statement.{statement}
 use Rattle.construction.proofs.better.Tie as tie
-use Rattle.construction.proofs.better.Reads as reads
-use Rattle.construction.proofs.better.Lts as lts
 
 shared-slice-read-if1 : tie.Need-shared-slice-read-if1
 shared-slice-read-if1 c = search needs
@@ -31,19 +31,27 @@ mul-if2 c = search needs
 shared-slice-read-if2 : tie.Need-shared-slice-read-if2
 shared-slice-read-if2 c = search needs
 
+-- a row was found before: it is below the number of loads
+row-below : (d : tie.After-found) → d .found .given .0 .0 < length (d .before .before .before .before .args .loads .now)
+row-below d = below-row (ap foundOf (d .found .given .1)) (d .before .before .before .before .pre .1 .1)
+
 mul-if2-2 : tie.Need-mul-if2-2
-mul-if2-2 c = omega (arith, below-row (ap foundOf (c .before .before .found .given .1)) (c .before .before .before .before .before .before .pre .1 .1))
+mul-if2-2 c = omega (arith, row-below (c .before .before))
 
 shared-slice-read-if2-2 : tie.Need-shared-slice-read-if2-2
-shared-slice-read-if2-2 c = below-row (ap foundOf (c .before .before .before .found .given .1)) (c .before .before .before .before .before .before .before .pre .1 .1)
+shared-slice-read-if2-2 c = row-below (c .before .before .before)
 
 returns-3 : tie.Need-returns-3
 unfolding Below
-returns-3 c = let k = c .before .before .before .before in (met-less _ _ _ (k .before .before .if1 .left) _ (ap foundOf (k .found .given .1)) (c .if2 .taken), search needs)
+returns-3 c =
+    let d = c .before .before .before .before in
+    (met-less _ _ _ (d .before .before .if1 .left) _ (ap foundOf (d .found .given .1)) (c .if2 .taken), search needs)
 
 returns-4 : tie.Need-returns-4
 unfolding Below
-returns-4 c = let k = c .before .before .before .before in (met-other _ _ _ (k .before .before .if1 .left) _ (ap foundOf (k .found .given .1)) (c .if2 .left), below-row (ap foundOf (k .found .given .1)) (k .before .before .before .before .pre .1 .1))
+returns-4 c =
+    let d = c .before .before .before .before in
+    (met-other _ _ _ (d .before .before .if1 .left) _ (ap foundOf (d .found .given .1)) (c .if2 .left), row-below d)
 
 pub better-spec : {M : Type 1} → statement M
 better-spec =

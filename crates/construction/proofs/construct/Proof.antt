@@ -1,69 +1,52 @@
--- `construction::construct` meets its contract. The invariant: the first n columns are made. Assumes nothing.
-use mathlib.Core.Path.{_≡_, refl, _∙_}
-use Prim.Native.Nat.{_-_, _≤_}
-use native.Mathlib.Omega.{arith}
-use lib.ListN.{length}
-use Rattle.construction.proofs.Made.{Built, built-none, built-more, built-rows}
+-- `construction::construct` meets its contract: with no loads and no flags the columns can be made. Assumes nothing.
+use lib.ListN.{length-replicate}
+use Rattle.construction.proofs.Made.{cleared-blank}
 use borrow.Author.Needs.{needs}
 use Rattle.construction.proofs.construct.Statement.{statement}
 use Rattle.construction.proofs.construct.Tie as tie
-use Rattle.construction.proofs.construct.Reads as reads
-use Rattle.construction.proofs.construct.Lts as lts
-use Rattle.construction.proofs.clear_loads.Reads as clear-loads-reads
-use Rattle.construction.proofs.column.Reads as column-reads
 
-abbrev Inv-loop : tie.InvT-loop
-Inv-loop rows₀ loads₀ marks₀ k seed state₀ relaxed₀ n₀ rows loads marks state relaxed n = (n ≤ k) × ((length rows ≡ length rows₀) × Built (length marks₀) n seed rows loads marks state relaxed)
+-- after `clear_loads` and after `clear_marks`
+abbrev unloaded : tie.After-clear-marks → tie.After-clear-loads
+unloaded d = d .before .before .before .before
 
-abbrev μ-loop : tie.MeasureT-loop
-μ-loop rows₀ loads₀ marks₀ k seed state₀ relaxed₀ n₀ rows loads marks state relaxed n = k - n
+abbrev start : tie.After-clear-marks → tie.Start
+start d = unloaded d .before .before .before .before .before
 
-clear-loads-requires : tie.Need-clear-loads-requires Inv-loop μ-loop
+clear-loads-requires : tie.Need-clear-loads-requires
 clear-loads-requires c κs = search needs
 
-loop-holds : tie.Need-loop-holds Inv-loop μ-loop
-loop-holds c = let pre = c .before .before .before .before .before .before .before .pre .1 .1 in (search needs, (refl, rw (c .before .before .clear-loads .ensures, ← pre .1 .1) (built-none _ _ _ _ (omega arith) (omega arith) refl)))
+clear-marks-requires : tie.Need-clear-marks-requires
+clear-marks-requires c κs = search needs
 
-column-requires : tie.Need-column-requires Inv-loop μ-loop
-column-requires c κs = let so = c .before .before .before .before .loop .inv .1 in let pre = c .before .before .before .before .before .before .before .before .before .before .before .before .pre in (rw (so .1 .ready .rowsAre) (so .1 .ready), (omega (arith, so .0, pre .0), (omega (arith, pre .1 .0), rw (so .1 .ready .rowsAre) (so .1 .below))))
+construct-seeded-requires : tie.Need-construct-seeded-requires
+construct-seeded-requires c κs =
+    let d = c .before .before .before .before .before in
+    let pre = start d .pre in
+    cleared-blank _ _ _ _ _ _ (pre .0) (pre .1 .0) (pre .1 .1) (unloaded d .clear-loads .ensures) (d .clear-marks .ensures)
 
-add-relaxed : tie.Need-add-relaxed Inv-loop μ-loop
-add-relaxed c = search needs
-
-add-n : tie.Need-add-n Inv-loop μ-loop
-add-n c = search needs
-
-loop-less : tie.Need-loop-less Inv-loop μ-loop
-loop-less c = search needs
-
-loop-again : tie.Need-loop-again Inv-loop μ-loop
-loop-again c = let so = c .before .before .before .before .before .before .before .before .before .before .before .before .loop .inv .1 in (search needs, (search needs, built-more (so .1) (rw (so .1 .ready .rowsAre) at (c .before .before .before .before .before .before .before .column .ensures)) (c .before .before .before .before .before .before .before .column .kept .1 .1 .0) (c .before .before .before .before .before .before .before .column .kept .1 .1 .1 .0)))
-
-same-length : tie.Need-same-length Inv-loop μ-loop
+same-length : tie.Need-same-length
 same-length c = search needs
 
-same-length-2 : tie.Need-same-length-2 Inv-loop μ-loop
+same-length-2 : tie.Need-same-length-2
 same-length-2 c = search needs
 
-same-length-3 : tie.Need-same-length-3 Inv-loop μ-loop
+same-length-3 : tie.Need-same-length-3
 same-length-3 c = search needs
 
-returns : tie.Need-returns Inv-loop μ-loop
-returns c = let so = c .before .loop .inv .1 in let pre = c .before .before .before .before .before .before .before .before .before .pre in let e : c .before .loop .n ≡ c .before .before .before .before .before .before .before .before .before .args .k = omega arith in let all = rw (e, pre .1 .1 .1 .1) at (so .1) in (built-rows (so .0 ∙ pre .0) all, (all .drawn, all .relaxes))
+returns : tie.Need-returns
+returns c =
+    let made = c .before .before .before .before .before .before in
+    let d = made .before .before .before .before .before .before in
+    let all = rw (unloaded d .clear-loads .ensures, length-replicate) at (made .construct-seeded .ensures) in
+    (all .rows, (all .state, all .relaxes))
 
 pub construct-spec : {M : Type 1} → statement M
 construct-spec =
     tie.close
     (tie.spec
-    Inv-loop
-    μ-loop
     clear-loads-requires
-    loop-holds
-    column-requires
-    add-relaxed
-    add-n
-    loop-less
-    loop-again
+    clear-marks-requires
+    construct-seeded-requires
     same-length
     same-length-2
     same-length-3

@@ -8,8 +8,6 @@ use Rattle.construction.proofs.Columns.{seek-found, seek-more, seek-don
 use borrow.Author.Needs.{needs}
 use Rattle.construction.proofs.contains.Statement.{statement}
 use Rattle.construction.proofs.contains.Tie as tie
-use Rattle.construction.proofs.contains.Reads as reads
-use Rattle.construction.proofs.contains.Lts as lts
 
 abbrev Inv-loop : tie.InvT-loop
 Inv-loop column r i₀ i = (i ≤ length column) × (holds (drop i column) r ≡ holds column r)

@@ -10,9 +10,6 @@ use Rattle.construction.proofs.Columns.{outside-more, outside-found, ou
 use borrow.Author.Needs.{needs}
 use Rattle.construction.proofs.first_outside.Statement.{statement}
 use Rattle.construction.proofs.first_outside.Tie as tie
-use Rattle.construction.proofs.first_outside.Reads as reads
-use Rattle.construction.proofs.first_outside.Lts as lts
-use Rattle.construction.proofs.contains.Reads as contains-reads
 
 abbrev Inv-loop : tie.InvT-loop
 Inv-loop column from to other r₀ r = firstOutside column (upFrom r (to - r)) other ≡ firstOutside column (upFrom from (to - from)) other
@@ -33,13 +30,20 @@ loop-less : tie.Need-loop-less Inv-loop μ-loop
 loop-less c = search needs
 
 loop-again : tie.Need-loop-again Inv-loop μ-loop
-loop-again c = outside-more _ _ _ _ (c .before .before .before .loop .inv) (c .before .before .loop-test .taken) (sym (c .before .contains .ensures) ∙ not-false _ (c .if1 .left))
+loop-again c =
+    let turn = c .before .before in
+    outside-more _ _ _ _ (turn .before .loop .inv) (turn .loop-test .taken) (sym (c .before .contains .ensures) ∙ not-false _ (c .if1 .left))
 
 returns : tie.Need-returns Inv-loop μ-loop
-returns c = ⊎-elim (λ w. absurd (omega arith)) (λ w. outside-found _ _ _ _ (c .before .before .loop .inv) (c .if2 .taken) (sym (w .1 .ensures) ∙ not-true _ (w .2 .taken))) (c .before .loop-test .came)
+returns c =
+    let inv = c .before .before .loop .inv in
+    ⊎-elim (λ w. absurd (omega arith)) (λ w. outside-found _ _ _ _ inv (c .if2 .taken) (sym (w .1 .ensures) ∙ not-true _ (w .2 .taken)))
+    (c .before .loop-test .came)
 
 returns-2 : tie.Need-returns-2 Inv-loop μ-loop
-returns-2 c = ⊎-elim (λ w. outside-done _ _ _ _ (c .before .before .loop .inv) (c .if2 .left)) (λ w. absurd (omega arith)) (c .before .loop-test .came)
+returns-2 c =
+    let inv = c .before .before .loop .inv in
+    ⊎-elim (λ w. outside-done _ _ _ _ inv (c .if2 .left)) (λ w. absurd (omega arith)) (c .before .loop-test .came)
 
 pub first-outside-spec : {M : Type 1} → statement M
 first-outside-spec =

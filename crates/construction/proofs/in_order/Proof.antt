@@ -5,8 +5,6 @@ use borrow.Author.Tests.{le-leb, lt-leb}
 use Rattle.construction.specs.Columns.{sorted, insert}
 use Rattle.construction.proofs.in_order.Statement.{statement}
 use Rattle.construction.proofs.in_order.Tie as tie
-use Rattle.construction.proofs.in_order.Reads as reads
-use Rattle.construction.proofs.in_order.Lts as lts
 
 returns : tie.Need-returns
 unfolding sorted insert
@@ -22,7 +20,9 @@ returns-3 c = simp (le-leb _ _ (c .before .before .if1 .taken), lt-leb _ _ (c .b
 
 returns-4 : tie.Need-returns-4
 unfolding sorted insert
-returns-4 c = let h : c .before .before .args .b ≤ c .before .before .args .c = omega arith in simp (lt-leb _ _ (c .before .if1 .left), le-leb _ _ (c .if4 .taken), le-leb _ _ h)
+returns-4 c =
+    let h : c .before .before .args .b ≤ c .before .before .args .c = omega arith in
+    simp (lt-leb _ _ (c .before .if1 .left), le-leb _ _ (c .if4 .taken), le-leb _ _ h)
 
 returns-5 : tie.Need-returns-5
 unfolding sorted insert

@@ -4,10 +4,6 @@ use Rattle.construction.proofs.Marks.{with-held, with-none}
 use borrow.Author.Needs.{needs}
 use Rattle.construction.proofs.mark_column.Statement.{statement}
 use Rattle.construction.proofs.mark_column.Tie as tie
-use Rattle.construction.proofs.mark_column.Reads as reads
-use Rattle.construction.proofs.mark_column.Lts as lts
-use Rattle.construction.proofs.contains.Reads as contains-reads
-use Rattle.construction.proofs.mark_rows.Reads as mark-rows-reads
 
 contains-requires : tie.Need-contains-requires
 contains-requires c κs = search needs
@@ -19,7 +15,9 @@ same-length : tie.Need-same-length
 same-length c = search needs
 
 returns : tie.Need-returns
-returns c = with-held _ _ _ _ (sym (c .before .before .before .before .before .contains .ensures) ∙ c .before .before .before .before .if1 .taken) (c .before .before .mark-rows .ensures)
+returns c =
+    let held = c .before .before .before .before in
+    with-held _ _ _ _ (sym (held .before .contains .ensures) ∙ held .if1 .taken) (c .before .before .mark-rows .ensures)
 
 returns-2 : tie.Need-returns-2
 returns-2 c = with-none _ _ _ (sym (c .before .contains .ensures) ∙ c .if1 .left)

@@ -9,8 +9,6 @@ use Rattle.construction.proofs.Marks.{marked-none, marked-more}
 use borrow.Author.Needs.{needs}
 use Rattle.construction.proofs.mark_rows.Statement.{statement}
 use Rattle.construction.proofs.mark_rows.Tie as tie
-use Rattle.construction.proofs.mark_rows.Reads as reads
-use Rattle.construction.proofs.mark_rows.Lts as lts
 
 abbrev Inv-loop : tie.InvT-loop
 Inv-loop marks₀ column i₀ marks i = (i ≤ length column) × ((length marks ≡ length marks₀) × Marked (take i column) marks₀ marks)
@@ -41,7 +39,10 @@ loop-less : tie.Need-loop-less Inv-loop μ-loop
 loop-less c = search needs
 
 loop-again : tie.Need-loop-again Inv-loop μ-loop
-loop-again c = (search needs, (simp length-set (omega arith), marked-more _ _ _ _ (c .before .loop-test .taken) (c .before .before .loop .inv .1 .0) (c .before .before .loop .inv .1 .1)))
+loop-again c =
+    let turn = c .before in
+    let inv = turn .before .loop .inv in
+    (search needs, (simp length-set (omega arith), marked-more _ _ _ _ (turn .loop-test .taken) (inv .1 .0) (inv .1 .1)))
 
 same-length : tie.Need-same-length Inv-loop μ-loop
 same-length c = search needs

@@ -8,9 +8,6 @@ use Rattle.construction.proofs.Marks.{Joined, joined-none, joined-more,
 use borrow.Author.Needs.{needs}
 use Rattle.construction.proofs.mark_together.Statement.{statement}
 use Rattle.construction.proofs.mark_together.Tie as tie
-use Rattle.construction.proofs.mark_together.Reads as reads
-use Rattle.construction.proofs.mark_together.Lts as lts
-use Rattle.construction.proofs.mark_column.Reads as mark-column-reads
 
 abbrev Inv-loop : tie.InvT-loop
 Inv-loop marks₀ rows n q j₀ marks j = (j ≤ n) × ((length marks ≡ length marks₀) × Joined (columnsIn rows j) q marks₀ marks)
@@ -43,7 +40,11 @@ part-mark-column-end : tie.Need-part-mark-column-end Inv-loop μ-loop
 part-mark-column-end c = search needs
 
 mark-column-requires : tie.Need-mark-column-requires Inv-loop μ-loop
-mark-column-requires c κs = let start = c .before .before .before .before .before .before in let j = c .before .before .before .loop .j in rw (c .before .before .before .loop .inv .1 .0, length-set) (part-below _ (3 * start .args .n) (3 * j) (3 * j + 3 - 3 * j) _ (omega arith) (start .pre .1 .0) (start .pre .1 .1))
+mark-column-requires c κs =
+    let turn = c .before .before .before in
+    let start = turn .before .before .before in
+    let at = 3 * turn .loop .j in
+    rw (turn .loop .inv .1 .0, length-set) (part-below _ (3 * start .args .n) at (at + 3 - at) _ (omega arith) (start .pre .1 .0) (start .pre .1 .1))
 
 add-j : tie.Need-add-j Inv-loop μ-loop
 add-j c = search needs
@@ -52,13 +53,17 @@ loop-less : tie.Need-loop-less Inv-loop μ-loop
 loop-less c = search needs
 
 loop-again : tie.Need-loop-again Inv-loop μ-loop
-loop-again c = let turn = c .before .before .before .before .before .before in (search needs, (search needs, joined-more _ _ _ _ _ _ (turn .loop .inv .1 .0) (turn .loop .inv .1 .1) (c .before .before .mark-column .ensures)))
+loop-again c =
+    let inv = c .before .before .before .before .before .before .loop .inv in
+    (search needs, (search needs, joined-more _ _ _ _ _ _ (inv .1 .0) (inv .1 .1) (c .before .before .mark-column .ensures)))
 
 same-length : tie.Need-same-length Inv-loop μ-loop
 same-length c = c .before .loop .inv .1 .0 ∙ simp length-set
 
 returns : tie.Need-returns Inv-loop μ-loop
-returns c = let e : c .before .loop .j ≡ c .before .before .before .before .args .n = omega arith in joined-all _ _ _ _ (rw e at (c .before .loop .inv .1 .1))
+returns c =
+    let all : c .before .loop .j ≡ c .before .before .before .before .args .n = omega arith in
+    joined-all _ _ _ _ (rw all at (c .before .loop .inv .1 .1))
 
 pub mark-together-spec : {M : Type 1} → statement M
 mark-together-spec =

@@ -3,14 +3,11 @@ use mathlib.Core.Path.{sym, ap, _∙_}
 use native.Mathlib.Nat.{mod-lt}
 use Rattle.construction.specs.Tables.{foundOf}
 use Rattle.construction.proofs.Searches.{below-row}
-use Rattle.construction.proofs.Columns.{settled-row, settled-relaxed, outside-below}
+use Rattle.construction.proofs.Columns.{settled-row, settled-relaxed}
+use Rattle.construction.proofs.Rows.{outside-below}
 use borrow.Author.Needs.{needs}
 use Rattle.construction.proofs.pick_row.Statement.{statement}
 use Rattle.construction.proofs.pick_row.Tie as tie
-use Rattle.construction.proofs.pick_row.Reads as reads
-use Rattle.construction.proofs.pick_row.Lts as lts
-use Rattle.construction.proofs.relaxed_row.Reads as relaxed-row-reads
-use Rattle.construction.proofs.search.Reads as search-reads
 
 rem-start : tie.Need-rem-start
 rem-start c = search needs
@@ -28,10 +25,17 @@ relaxed-row-requires : tie.Need-relaxed-row-requires
 relaxed-row-requires c κs = search needs
 
 returns : tie.Need-returns
-returns c = let found = sym (c .before .before .before .search .ensures .0) ∙ ap foundOf (c .before .enum-told .given .1) in (settled-relaxed _ _ _ _ found (c .relaxed-row .ensures), (rw (c .relaxed-row .ensures) (outside-below _ _ _ (mod-lt _ (c .before .before .before .before .before .before .before .pre .1))), search needs))
+returns c =
+    let d = c .before .before .before in
+    let none = sym (d .search .ensures .0) ∙ ap foundOf (c .before .enum-told .given .1) in
+    let below = outside-below _ _ _ (mod-lt _ (d .before .before .before .before .pre .1)) in
+    (settled-relaxed _ _ _ _ none (c .relaxed-row .ensures), (rw (c .relaxed-row .ensures) below, search needs))
 
 returns-2 : tie.Need-returns-2
-returns-2 c = let known = ap foundOf (c .before .row .given .1) in (settled-row _ _ _ _ (sym (c .before .before .before .search .ensures .0) ∙ known), (below-row known (c .before .before .before .search .ensures .1), search needs))
+returns-2 c =
+    let found = c .before .before .before .search .ensures in
+    let known = ap foundOf (c .before .row .given .1) in
+    (settled-row _ _ _ _ (sym (found .0) ∙ known), (below-row known (found .1), search needs))
 
 pub pick-row-spec : {M : Type 1} → statement M
 pick-row-spec =

@@ -1,24 +1,20 @@
 -- `construction::place` meets its contract: the pick from the tables is the definition's, and it is marked. Assumes nothing.
 use native.Mathlib.Omega.{arith}
 use Rattle.construction.specs.Tables.{choiceOf}
-use Rattle.construction.proofs.Picks.{placed}
+use Rattle.construction.proofs.Picks.{before-below, placed}
 use borrow.Author.Needs.{needs}
 use Rattle.construction.proofs.place.Statement.{statement}
 use Rattle.construction.proofs.place.Tie as tie
-use Rattle.construction.proofs.place.Reads as reads
-use Rattle.construction.proofs.place.Lts as lts
-use Rattle.generator.proofs.next_by_value.Reads as next-by-value-reads
-use Rattle.construction.proofs.mark_together.Reads as mark-together-reads
-use Rattle.construction.proofs.pick_row.Reads as pick-row-reads
+
+-- after `pick_row`: the table, the loads and the flags as they were passed
+abbrev start : tie.After-pick-row → tie.Start
+start d = d .before .before .before .before .before .before .before
 
 mul-at : tie.Need-mul-at
 mul-at c = search needs
 
 add-end : tie.Need-add-end
 add-end c = search needs
-
-next-by-value-requires : tie.Need-next-by-value-requires
-next-by-value-requires c κs = search needs
 
 mul-pick-row : tie.Need-mul-pick-row
 mul-pick-row c = search needs
@@ -36,7 +32,11 @@ pick-row-requires : tie.Need-pick-row-requires
 pick-row-requires c κs = search needs
 
 mark-together-requires : tie.Need-mark-together-requires
-mark-together-requires c κs = let start = c .before .before .before .before .before .before .before .before .before .before in (omega (arith, c .before .before .pick-row .ensures .1, start .pre .0 .flagsAre), (search needs, rw (start .pre .0 .flagsAre) (start .pre .1 .1 .0)))
+mark-together-requires c κs =
+    let d = c .before .before in
+    let pre = start d .pre in
+    let size = pre .1 .ready .flagsAre in
+    (omega (arith, d .pick-row .ensures .1, size), (search needs, rw size (before-below (pre .0) (pre .1))))
 
 cast-rows : tie.Need-cast-rows
 cast-rows c = search needs
@@ -54,7 +54,13 @@ same-length-2 : tie.Need-same-length-2
 same-length-2 c = search needs
 
 returns : tie.Need-returns
-returns c = let start = c .before .before .before .before .before .before .before .before .before .before .before .before .before in let p = c .before .before .before .before .before .pick-row in placed _ _ _ _ _ _ _ _ (choiceOf (p .result)) (start .pre .0) (start .pre .1 .1 .1) (c .before .before .before .before .before .before .before .before .before .next-by-value .ensures) (p .ensures .0) (p .ensures .1 .0) (p .ensures .1 .1) (c .before .before .mark-together .kept .0) (c .before .before .mark-together .ensures)
+returns c =
+    let m = c .before .before in
+    let d = m .before .before .before in
+    let p = d .pick-row in
+    let pre = start d .pre in
+    placed _ _ _ _ _ _ _ (choiceOf (p .result)) (pre .0) (pre .1) (p .ensures .0) (p .ensures .1 .0) (p .ensures .1 .1) (m .mark-together .kept .0)
+    (m .mark-together .ensures)
 
 pub place-spec : {M : Type 1} → statement M
 place-spec =
@@ -62,7 +68,6 @@ place-spec =
     (tie.spec
     mul-at
     add-end
-    next-by-value-requires
     mul-pick-row
     sub-pick-row
     part-pick-row-start

@@ -1,14 +1,11 @@
 -- `construction::relaxed_row` meets its contract: the two parts are once round the rows. Assumes nothing.
-use mathlib.Core.Path.{_≡_, _∙_}
+use mathlib.Core.Path.{_≡_}
 use Prim.Native.Nat.{_-_}
 use native.Mathlib.Omega.{arith}
 use Rattle.construction.proofs.Columns.{outside-append}
 use borrow.Author.Needs.{needs}
 use Rattle.construction.proofs.relaxed_row.Statement.{statement}
 use Rattle.construction.proofs.relaxed_row.Tie as tie
-use Rattle.construction.proofs.relaxed_row.Reads as reads
-use Rattle.construction.proofs.relaxed_row.Lts as lts
-use Rattle.construction.proofs.first_outside.Reads as first-outside-reads
 
 first-outside-requires : tie.Need-first-outside-requires
 first-outside-requires c κs = search needs
@@ -17,7 +14,10 @@ first-outside-requires-2 : tie.Need-first-outside-requires-2
 first-outside-requires-2 c κs = search needs
 
 returns : tie.Need-returns
-returns c = let z : c .before .before .before .args .start - 0 ≡ c .before .before .before .args .start = omega arith in c .first-outside2 .ensures ∙ rw (c .before .first-outside .ensures, z) (outside-append _ _ _ _)
+returns c =
+    let start = c .before .before .before .args .start in
+    let z : start - 0 ≡ start = omega arith in
+    rw (c .first-outside2 .ensures, c .before .first-outside .ensures, z) (outside-append _ _ _ _)
 
 pub relaxed-row-spec : {M : Type 1} → statement M
 relaxed-row-spec = tie.close (tie.spec first-outside-requires first-outside-requires-2 returns)

@@ -4,9 +4,6 @@ use Rattle.construction.proofs.Searches.{parts-round}
 use borrow.Author.Needs.{needs}
 use Rattle.construction.proofs.search.Statement.{statement}
 use Rattle.construction.proofs.search.Tie as tie
-use Rattle.construction.proofs.search.Reads as reads
-use Rattle.construction.proofs.search.Lts as lts
-use Rattle.construction.proofs.search_part.Reads as search-part-reads
 
 search-part-requires : tie.Need-search-part-requires
 unfolding Below

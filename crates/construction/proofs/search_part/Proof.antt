@@ -9,13 +9,11 @@ use Rattle.construction.proofs.Searches.{part-more, part-stops, part-do
 use borrow.Author.Needs.{needs}
 use Rattle.construction.proofs.search_part.Statement.{statement}
 use Rattle.construction.proofs.search_part.Tie as tie
-use Rattle.construction.proofs.search_part.Reads as reads
-use Rattle.construction.proofs.search_part.Lts as lts
-use Rattle.construction.proofs.better.Reads as better-reads
-use Rattle.construction.proofs.unbeaten.Reads as unbeaten-reads
 
 abbrev Inv-loop : tie.InvT-loop
-Inv-loop loads marks from to found₀ r₀ found r = (Below (length loads) (foundOf found)) × (metRows (loadAt loads) (flagAt marks) (upFrom r (to - r)) (foundOf found) ≡ metRows (loadAt loads) (flagAt marks) (upFrom from (to - from)) (foundOf found₀))
+Inv-loop loads marks from to found₀ r₀ found r =
+    let met = metRows (loadAt loads) (flagAt marks) in
+    (Below (length loads) (foundOf found)) × (met (upFrom r (to - r)) (foundOf found) ≡ met (upFrom from (to - from)) (foundOf found₀))
 
 abbrev μ-loop : tie.MeasureT-loop
 μ-loop loads marks from to found₀ r₀ found r = to - r
@@ -36,13 +34,20 @@ loop-less : tie.Need-loop-less Inv-loop μ-loop
 loop-less c = search needs
 
 loop-again : tie.Need-loop-again Inv-loop μ-loop
-loop-again c = let turn = c .before .before .before in (c .before .before .better .ensures .1, part-more _ _ _ _ _ (turn .loop-test .taken) (c .before .before .better .ensures .0) (turn .before .loop .inv .1))
+loop-again c =
+    let met = c .before .before in
+    let turn = met .before in
+    (met .better .ensures .1, part-more _ _ _ _ _ (turn .loop-test .taken) (met .better .ensures .0) (turn .before .loop .inv .1))
 
 returns : tie.Need-returns Inv-loop μ-loop
 returns c = (part-done _ _ _ _ _ (c .loop-test .left) (c .before .loop .inv .1), c .before .loop .inv .0)
 
 returns-2 : tie.Need-returns-2 Inv-loop μ-loop
-returns-2 c = let turn = c .before .before .before in (part-stops _ _ _ _ _ (turn .loop-test .taken) (c .before .before .better .ensures .0) (c .before .unbeaten .ensures (c .if1 .taken)) (turn .before .loop .inv .1), c .before .before .better .ensures .1)
+returns-2 c =
+    let met = c .before .before in
+    let turn = met .before in
+    let stops = c .before .unbeaten .ensures (c .if1 .taken) in
+    (part-stops _ _ _ _ _ (turn .loop-test .taken) (met .better .ensures .0) stops (turn .before .loop .inv .1), met .better .ensures .1)
 
 pub search-part-spec : {M : Type 1} → statement M
 search-part-spec =

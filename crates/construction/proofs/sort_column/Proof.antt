@@ -3,9 +3,6 @@ use Rattle.construction.proofs.Columns.{three-stored}
 use borrow.Author.Needs.{needs}
 use Rattle.construction.proofs.sort_column.Statement.{statement}
 use Rattle.construction.proofs.sort_column.Tie as tie
-use Rattle.construction.proofs.sort_column.Reads as reads
-use Rattle.construction.proofs.sort_column.Lts as lts
-use Rattle.construction.proofs.in_order.Reads as in-order-reads
 
 slice-read-in-order : tie.Need-slice-read-in-order
 slice-read-in-order c = search needs

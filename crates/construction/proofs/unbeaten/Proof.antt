@@ -8,8 +8,6 @@ use Rattle.construction.proofs.Searches.{below-row}
 use borrow.Author.Needs.{needs}
 use Rattle.construction.proofs.unbeaten.Statement.{statement}
 use Rattle.construction.proofs.unbeaten.Tie as tie
-use Rattle.construction.proofs.unbeaten.Reads as reads
-use Rattle.construction.proofs.unbeaten.Lts as lts
 
 enum-known-found : tie.Need-enum-known-found
 enum-known-found c = search needs

@@ -10,7 +10,7 @@ use denote.Ref.{now}
 use lib.Pow.{pow-pos}
 use Rattle.crc.specs.Bytes.{stored}
 use Rattle.crc.specs.Register.{register, crc14}
-use Rattle.crc.proofs.Digits.{Bytes}
+use Rattle.bits.proofs.Digits.{Bytes}
 use Rattle.crc.proofs.Places.{laid-checksum, block-stored}
 use Rattle.crc.proofs.ft8_add_crc.Statement.{statement}
 use Rattle.crc.proofs.ft8_add_crc.Tie as tie

@@ -1,21 +1,28 @@
 -- `decoders::ldpc_decode_soft` meets its contract: each refusal by its test, and the decode. Assumes nothing.
 use borrow.Author.Tests.{lt-ltb, eq-eqb, ne-eqb}
-use Rattle.decoders.proofs.Answers.{ft8-accepted}
+use Rattle.decoders.specs.Calls.{Single, ft8Soft}
+use Rattle.decoders.proofs.Answers.{turned-down, decoded, lengths-right}
 use borrow.Author.Needs.{needs}
 use Rattle.decoders.proofs.ldpc_decode_soft.Statement.{statement}
 use Rattle.decoders.proofs.ldpc_decode_soft.Tie as tie
-use Rattle.decoders.proofs.ldpc_decode_soft.Reads as reads
-use Rattle.decoders.proofs.ldpc_decode_soft.Lts as lts
-use Rattle.decoders.proofs.codes.decode_ft8.Reads as decode-ft8-reads
+
+-- the entry, from where the first test was passed, and the call as it is handed over
+abbrev entry : tie.Else1 → tie.Start
+entry c = c .before .before .before .before
+
+abbrev call : tie.Start → Single
+call s = let a = s .args in ft8Soft (a .llr .now) (a .limit) (a .plain .now) (a .work .now)
 
 returns : tie.Need-returns
-returns c = simp (ne-eqb _ _ (c .if1 .taken)) (search needs)
+returns c = turned-down (call (c .before .before .before .before)) 4 (simp (ne-eqb _ _ (c .if1 .taken)))
 
 returns-2 : tie.Need-returns-2
-returns-2 c = simp (eq-eqb _ _ (c .before .if1 .left), ne-eqb _ _ (c .if2 .taken)) (search needs)
+returns-2 c = turned-down (call (entry (c .before))) 8 (simp (eq-eqb _ _ (c .before .if1 .left), ne-eqb _ _ (c .if2 .taken)))
 
 returns-3 : tie.Need-returns-3
-returns-3 c = simp (eq-eqb _ _ (c .before .before .if1 .left), eq-eqb _ _ (c .before .if2 .left), lt-ltb _ _ (c .if3 .taken)) (search needs)
+returns-3 c =
+    let first = c .before .before in
+    turned-down (call (entry first)) 9 (simp (eq-eqb _ _ (first .if1 .left), eq-eqb _ _ (c .before .if2 .left), lt-ltb _ _ (c .if3 .taken)))
 
 decode-ft8-requires : tie.Need-decode-ft8-requires
 decode-ft8-requires c κs = search needs
@@ -30,8 +37,12 @@ returns-4 : tie.Need-returns-4
 returns-4 c =
     let done = c .before .before .before .before in
     let third = done .before .before .before in
-    let start = third .before .before .before .before .before .before in
-    ft8-accepted _ (start .args .llr .now) (start .args .plain .now) (start .args .work .now) _ _ _ (third .before .before .if1 .left) (third .before .if2 .left) (third .if3 .left) (done .decode-ft8 .ensures .0) (done .decode-ft8 .ensures .1)
+    let first = third .before .before in
+    let n = first .if1 .left in
+    let k = third .before .if2 .left in
+    let a = entry first .args in
+    let right = lengths-right 174 174 (a .llr .now) (a .plain .now) (a .work .now) n k (third .if3 .left) in
+    decoded (call (entry first)) right _ _ _ (rw k at (done .decode-ft8 .ensures .0)) (done .decode-ft8 .ensures .1)
 
 pub ldpc-decode-soft-spec : {M : Type 1} → statement M
 ldpc-decode-soft-spec =

@@ -1,20 +1,21 @@
--- `decoders::rule_of` meets its contract, rule by rule. Assumes nothing.
-use mathlib.Core.Path.{refl}
-use Rattle.decoders.proofs.Answers.{rule-else}
+-- `decoders::rule_of` meets its contract: (174,91) and the staircase codes. Assumes nothing.
+use mathlib.Core.Path.{_∙_}
+use Rattle.decoders.proofs.Answers.{rule-of-ft8, rule-of-staircase}
 use borrow.Author.Needs.{needs}
 use Rattle.decoders.proofs.rule_of.Statement.{statement}
 use Rattle.decoders.proofs.rule_of.Tie as tie
-use Rattle.decoders.proofs.rule_of.Reads as reads
-use Rattle.decoders.proofs.rule_of.Lts as lts
+
+ft8-rule-requires : tie.Need-ft8-rule-requires
+ft8-rule-requires c κs = search needs
 
 returns : tie.Need-returns
-returns c = search needs
+returns c = c .ft8-rule .ensures ∙ rule-of-ft8 _ _ _ (c .before .if1 .taken)
+
+staircase-rule-requires : tie.Need-staircase-rule-requires
+staircase-rule-requires c κs = search needs
 
 returns-2 : tie.Need-returns-2
-returns-2 c = rw (c .if2 .taken) refl
-
-returns-3 : tie.Need-returns-3
-returns-3 c = rule-else _ _ (c .before .if1 .left) (c .if2 .left)
+returns-2 c = c .staircase-rule .ensures ∙ rule-of-staircase _ _ _ (c .before .if1 .left)
 
 pub rule-of-spec : {M : Type 1} → statement M
-rule-of-spec = tie.close (tie.spec returns returns-2 returns-3)
+rule-of-spec = tie.close (tie.spec ft8-rule-requires returns staircase-rule-requires returns-2)

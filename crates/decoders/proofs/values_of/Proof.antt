@@ -3,14 +3,15 @@ use mathlib.Core.Path.{refl}
 use Rattle.decoders.proofs.Answers.{values-else}
 use Rattle.decoders.proofs.values_of.Statement.{statement}
 use Rattle.decoders.proofs.values_of.Tie as tie
-use Rattle.decoders.proofs.values_of.Reads as reads
-use Rattle.decoders.proofs.values_of.Lts as lts
 
 returns : tie.Need-returns
 returns c = rw (c .if1 .taken) refl
 
 returns-2 : tie.Need-returns-2
-returns-2 c = values-else _ (c .if1 .left)
+returns-2 c = rw (c .if2 .taken) refl
+
+returns-3 : tie.Need-returns-3
+returns-3 c = values-else _ (c .before .if1 .left) (c .if2 .left)
 
 pub values-of-spec : {M : Type 1} → statement M
-values-of-spec = tie.close (tie.spec returns returns-2)
+values-of-spec = tie.close (tie.spec returns returns-2 returns-3)

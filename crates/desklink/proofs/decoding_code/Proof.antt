@@ -1,17 +1,20 @@
 -- `desklink::decoding_code` meets its contract, case by case. Assumes nothing.
-use mathlib.Core.Path.{_∙_}
-use mir.Syntax.{w32}
-use mir.ValLaws.{toZ-ofZ}
+use mathlib.Core.Path.{_∙_, refl}
+use Rattle.desklink.proofs.Signed.{read-back}
 use borrow.Author.Needs.{needs}
 use Rattle.desklink.proofs.decoding_code.Statement.{statement}
 use Rattle.desklink.proofs.decoding_code.Tie as tie
 use Rattle.desklink.proofs.decoding_code.Reads as reads
 use Rattle.desklink.proofs.decoding_code.Lts as lts
+use Rattle.batch.proofs.place_of.Reads as place-of-reads
 use Rattle.desklink.proofs.refusal_code.Reads as refusal-code-reads
 use Rattle.desklink.proofs.value_code.Reads as value-code-reads
 
 enum-known-answer : tie.Need-enum-known-answer
 enum-known-answer c = search needs
+
+place-of-requires : tie.Need-place-of-requires
+place-of-requires c κs = search needs
 
 value-code-requires : tie.Need-value-code-requires
 value-code-requires c κs = search needs
@@ -23,16 +26,20 @@ refusal-code-requires : tie.Need-refusal-code-requires
 refusal-code-requires c κs = search needs
 
 returns : tie.Need-returns
-returns c = rw (c .before .before .answer .given .1) (toZ-ofZ w32 _ (record { sfits = c .value-code .ok }) ∙ c .value-code .ensures)
+returns c =
+    let told = c .before .before .before .answer .given in
+    rw (told .1) (record { itsCount = read-back (record { sfits = c .value-code .ok }) ∙ c .value-code .ensures; itsRounds = refl; itsFirst = c .before .place-of .ensures })
 
 returns-2 : tie.Need-returns-2
-returns-2 c = rw (c .before .before .answer2 .given .1) (toZ-ofZ w32 _ (record { sfits = c .refusal-code .ok }) ∙ c .refusal-code .ensures)
+returns-2 c =
+    rw (c .before .before .answer2 .given .1) (record { itsCount = read-back (record { sfits = c .refusal-code .ok }) ∙ c .refusal-code .ensures; itsRounds = refl; itsFirst = refl })
 
 pub decoding-code-spec : {M : Type 1} → statement M
 decoding-code-spec =
     tie.close
     (tie.spec
     enum-known-answer
+    place-of-requires
     value-code-requires
     enum-known-answer-2
     refusal-code-requires

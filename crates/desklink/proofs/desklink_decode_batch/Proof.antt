@@ -1,21 +1,25 @@
--- `desklink::desklink_decode_batch` meets its contract: the answer of the call beneath, as a number. Assumes nothing.
-use mathlib.Core.Path.{ap, _∙_}
-use mir.Syntax.{w32}
-use mir.ValLaws.{toZ-ofZ}
-use Rattle.desklink.specs.Coded.{codedUnit}
+-- `desklink::desklink_decode_batch` meets its contract: the call beneath, its answer told as a number. Assumes nothing.
+use Rattle.desklink.proofs.Signed.{read-back}
+use Rattle.desklink.proofs.Told.{batch-told}
 use borrow.Author.Needs.{needs}
 use Rattle.desklink.proofs.desklink_decode_batch.Statement.{statement}
 use Rattle.desklink.proofs.desklink_decode_batch.Tie as tie
 use Rattle.desklink.proofs.desklink_decode_batch.Reads as reads
 use Rattle.desklink.proofs.desklink_decode_batch.Lts as lts
 use Rattle.batch.proofs.decode_batch.Reads as decode-batch-reads
-use Rattle.desklink.proofs.batched_code.Reads as batched-code-reads
+use Rattle.desklink.proofs.status_code.Reads as status-code-reads
+
+abbrev decoded : tie.After-status-code → tie.After-decode-batch
+decoded c =
+    let firsts = c .before .before .before .before in
+    let counts = firsts .before .before .before .before in
+    counts .before .before .before
 
 decode-batch-requires : tie.Need-decode-batch-requires
 decode-batch-requires c κs = search needs
 
-batched-code-requires : tie.Need-batched-code-requires
-batched-code-requires c κs = search needs
+status-code-requires : tie.Need-status-code-requires
+status-code-requires c κs = search needs
 
 same-length : tie.Need-same-length
 same-length c = search needs
@@ -26,16 +30,24 @@ same-length-2 c = search needs
 same-length-3 : tie.Need-same-length-3
 same-length-3 c = search needs
 
+same-length-4 : tie.Need-same-length-4
+same-length-4 c = search needs
+
+same-length-5 : tie.Need-same-length-5
+same-length-5 c = search needs
+
 returns : tie.Need-returns
-returns c = (toZ-ofZ w32 _ (record { sfits = c .batched-code .ok }) ∙ c .batched-code .ensures ∙ ap codedUnit (c .before .before .before .before .before .before .before .decode-batch .ensures .0), c .before .before .before .before .before .before .before .decode-batch .ensures .1)
+returns c = batch-told _ (decoded c .decode-batch .ensures) (c .status-code .ensures) (read-back (record { sfits = c .status-code .ok }))
 
 pub desklink-decode-batch-spec : {M : Type 1} → statement M
 desklink-decode-batch-spec =
     tie.close
     (tie.spec
     decode-batch-requires
-    batched-code-requires
+    status-code-requires
     same-length
     same-length-2
     same-length-3
+    same-length-4
+    same-length-5
     returns)

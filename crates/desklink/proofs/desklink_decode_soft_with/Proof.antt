@@ -1,8 +1,6 @@
--- `desklink::desklink_decode_soft_with` meets its contract: the answer of the call beneath, as a number. Assumes nothing.
-use mathlib.Core.Path.{ap, _∙_}
-use mir.Syntax.{w32}
-use mir.ValLaws.{toZ-ofZ}
-use Rattle.desklink.specs.Coded.{coded}
+-- `desklink::desklink_decode_soft_with` meets its contract: the call beneath, its answer told as numbers. Assumes nothing.
+use Rattle.desklink.proofs.Signed.{read-back}
+use Rattle.desklink.proofs.Told.{decode-told}
 use borrow.Author.Needs.{needs}
 use Rattle.desklink.proofs.desklink_decode_soft_with.Statement.{statement}
 use Rattle.desklink.proofs.desklink_decode_soft_with.Tie as tie
@@ -10,6 +8,9 @@ use Rattle.desklink.proofs.desklink_decode_soft_with.Reads as reads
 use Rattle.desklink.proofs.desklink_decode_soft_with.Lts as lts
 use Rattle.decoders.proofs.decode_soft_with.Reads as decode-soft-with-reads
 use Rattle.desklink.proofs.decoding_code.Reads as decoding-code-reads
+
+abbrev decoded : tie.After-decoding-code → tie.After-decode-soft-with
+decoded c = c .before .before .before .before .before .before .before
 
 decode-soft-with-requires : tie.Need-decode-soft-with-requires
 decode-soft-with-requires c κs = search needs
@@ -24,7 +25,7 @@ same-length-2 : tie.Need-same-length-2
 same-length-2 c = search needs
 
 returns : tie.Need-returns
-returns c = (toZ-ofZ w32 _ (record { sfits = c .decoding-code .ok }) ∙ c .decoding-code .ensures ∙ ap coded (c .before .before .before .before .before .decode-soft-with .ensures .0), c .before .before .before .before .before .decode-soft-with .ensures .1)
+returns c = decode-told _ (decoded c .decode-soft-with .ensures) (c .decoding-code .ensures) (read-back (record { sfits = c .decoding-code .ok }))
 
 pub desklink-decode-soft-with-spec : {M : Type 1} → statement M
 desklink-decode-soft-with-spec =

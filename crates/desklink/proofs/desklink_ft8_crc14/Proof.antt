@@ -1,7 +1,6 @@
 -- `desklink::desklink_ft8_crc14` meets its contract: the answer of the call beneath, as a number. Assumes nothing.
 use mathlib.Core.Path.{ap, _∙_}
-use mir.Syntax.{w32}
-use mir.ValLaws.{toZ-ofZ}
+use Rattle.desklink.proofs.Signed.{read-back}
 use Rattle.desklink.specs.Coded.{coded}
 use borrow.Author.Needs.{needs}
 use Rattle.desklink.proofs.desklink_ft8_crc14.Statement.{statement}
@@ -9,16 +8,16 @@ use Rattle.desklink.proofs.desklink_ft8_crc14.Tie as tie
 use Rattle.desklink.proofs.desklink_ft8_crc14.Reads as reads
 use Rattle.desklink.proofs.desklink_ft8_crc14.Lts as lts
 use Rattle.crc.proofs.ft8_crc14.Reads as ft8-crc14-reads
-use Rattle.desklink.proofs.checksum_code.Reads as checksum-code-reads
+use Rattle.desklink.proofs.answer_code.Reads as answer-code-reads
 
 ft8-crc14-requires : tie.Need-ft8-crc14-requires
 ft8-crc14-requires c κs = search needs
 
-checksum-code-requires : tie.Need-checksum-code-requires
-checksum-code-requires c κs = search needs
+answer-code-requires : tie.Need-answer-code-requires
+answer-code-requires c κs = search needs
 
 returns : tie.Need-returns
-returns c = toZ-ofZ w32 _ (record { sfits = c .checksum-code .ok }) ∙ c .checksum-code .ensures ∙ ap coded (c .before .ft8-crc14 .ensures)
+returns c = read-back (record { sfits = c .answer-code .ok }) ∙ c .answer-code .ensures ∙ ap coded (c .before .ft8-crc14 .ensures)
 
 pub desklink-ft8-crc14-spec : {M : Type 1} → statement M
-desklink-ft8-crc14-spec = tie.close (tie.spec ft8-crc14-requires checksum-code-requires returns)
+desklink-ft8-crc14-spec = tie.close (tie.spec ft8-crc14-requires answer-code-requires returns)

@@ -1,25 +1,23 @@
--- `desklink::desklink_ldpc_count_errors` meets its contract: the answer of the call beneath, as a number. Assumes nothing.
-use mathlib.Core.Path.{ap, _∙_}
-use mir.Syntax.{w32}
-use mir.ValLaws.{toZ-ofZ}
-use Rattle.desklink.specs.Coded.{coded}
+-- `desklink::desklink_ldpc_count_errors` meets its contract: the call beneath, its answer told as numbers. Assumes nothing.
+use Rattle.desklink.proofs.Signed.{read-back}
+use Rattle.desklink.proofs.Told.{count-told}
 use borrow.Author.Needs.{needs}
 use Rattle.desklink.proofs.desklink_ldpc_count_errors.Statement.{statement}
 use Rattle.desklink.proofs.desklink_ldpc_count_errors.Tie as tie
 use Rattle.desklink.proofs.desklink_ldpc_count_errors.Reads as reads
 use Rattle.desklink.proofs.desklink_ldpc_count_errors.Lts as lts
-use Rattle.desklink.proofs.count_code.Reads as count-code-reads
+use Rattle.desklink.proofs.counting_code.Reads as counting-code-reads
 use Rattle.ldpc.proofs.ldpc_count_errors.Reads as ldpc-count-errors-reads
 
 ldpc-count-errors-requires : tie.Need-ldpc-count-errors-requires
 ldpc-count-errors-requires c κs = search needs
 
-count-code-requires : tie.Need-count-code-requires
-count-code-requires c κs = search needs
+counting-code-requires : tie.Need-counting-code-requires
+counting-code-requires c κs = search needs
 
 returns : tie.Need-returns
-returns c = toZ-ofZ w32 _ (record { sfits = c .count-code .ok }) ∙ c .count-code .ensures ∙ ap coded (c .before .ldpc-count-errors .ensures)
+returns c = count-told (c .before .before .ldpc-count-errors .ensures) (c .counting-code .ensures) (read-back (record { sfits = c .counting-code .ok }))
 
 pub desklink-ldpc-count-errors-spec : {M : Type 1} → statement M
 desklink-ldpc-count-errors-spec =
-    tie.close (tie.spec ldpc-count-errors-requires count-code-requires returns)
+    tie.close (tie.spec ldpc-count-errors-requires counting-code-requires returns)

@@ -1,28 +1,27 @@
 -- `desklink::desklink_ldpc_encode` meets its contract: the answer of the call beneath, as a number. Assumes nothing.
 use mathlib.Core.Path.{ap, _∙_}
-use mir.Syntax.{w32}
-use mir.ValLaws.{toZ-ofZ}
+use Rattle.desklink.proofs.Signed.{read-back}
 use Rattle.desklink.specs.Coded.{codedUnit}
 use borrow.Author.Needs.{needs}
 use Rattle.desklink.proofs.desklink_ldpc_encode.Statement.{statement}
 use Rattle.desklink.proofs.desklink_ldpc_encode.Tie as tie
 use Rattle.desklink.proofs.desklink_ldpc_encode.Reads as reads
 use Rattle.desklink.proofs.desklink_ldpc_encode.Lts as lts
-use Rattle.desklink.proofs.encoded_code.Reads as encoded-code-reads
+use Rattle.desklink.proofs.status_code.Reads as status-code-reads
 use Rattle.ldpc.proofs.ldpc_encode.Reads as ldpc-encode-reads
 
 ldpc-encode-requires : tie.Need-ldpc-encode-requires
 ldpc-encode-requires c κs = search needs
 
-encoded-code-requires : tie.Need-encoded-code-requires
-encoded-code-requires c κs = search needs
+status-code-requires : tie.Need-status-code-requires
+status-code-requires c κs = search needs
 
 same-length : tie.Need-same-length
 same-length c = search needs
 
 returns : tie.Need-returns
-returns c = (toZ-ofZ w32 _ (record { sfits = c .encoded-code .ok }) ∙ c .encoded-code .ensures ∙ ap codedUnit (c .before .before .before .ldpc-encode .ensures .0), c .before .before .before .ldpc-encode .ensures .1)
+returns c = (read-back (record { sfits = c .status-code .ok }) ∙ c .status-code .ensures ∙ ap codedUnit (c .before .before .before .ldpc-encode .ensures .0), c .before .before .before .ldpc-encode .ensures .1)
 
 pub desklink-ldpc-encode-spec : {M : Type 1} → statement M
 desklink-ldpc-encode-spec =
-    tie.close (tie.spec ldpc-encode-requires encoded-code-requires same-length returns)
+    tie.close (tie.spec ldpc-encode-requires status-code-requires same-length returns)

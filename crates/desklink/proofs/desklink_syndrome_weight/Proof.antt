@@ -1,33 +1,23 @@
--- `desklink::desklink_syndrome_weight` meets its contract: a number that is no code's is refused, and any other fits the call beneath. Assumes nothing.
-use mathlib.Core.Path.{ap, _∙_}
-use borrow.Author.Tests.{le-ltb}
-use mir.Syntax.{w32}
-use mir.ValLaws.{toZ-ofZ}
-use Rattle.desklink.specs.Coded.{coded}
+-- `desklink::desklink_syndrome_weight` meets its contract: the call beneath, its answer told as numbers. Assumes nothing.
+use Rattle.desklink.proofs.Signed.{read-back}
+use Rattle.desklink.proofs.Told.{count-told}
 use borrow.Author.Needs.{needs}
 use Rattle.desklink.proofs.desklink_syndrome_weight.Statement.{statement}
 use Rattle.desklink.proofs.desklink_syndrome_weight.Tie as tie
 use Rattle.desklink.proofs.desklink_syndrome_weight.Reads as reads
 use Rattle.desklink.proofs.desklink_syndrome_weight.Lts as lts
-use Rattle.desklink.proofs.weight_code.Reads as weight-code-reads
+use Rattle.desklink.proofs.counting_code.Reads as counting-code-reads
 use Rattle.ldpc_codes.proofs.syndrome_weight.Reads as syndrome-weight-reads
-
-returns : tie.Need-returns
-returns c = simp (le-ltb _ _ (c .if1 .taken)) (search needs)
-
-cast-syndrome-weight : tie.Need-cast-syndrome-weight
-cast-syndrome-weight c = search needs
 
 syndrome-weight-requires : tie.Need-syndrome-weight-requires
 syndrome-weight-requires c κs = search needs
 
-weight-code-requires : tie.Need-weight-code-requires
-weight-code-requires c κs = search needs
+counting-code-requires : tie.Need-counting-code-requires
+counting-code-requires c κs = search needs
 
-returns-2 : tie.Need-returns-2
-returns-2 c = toZ-ofZ w32 _ (record { sfits = c .weight-code .ok }) ∙ c .weight-code .ensures ∙ ap coded (c .before .syndrome-weight .ensures)
+returns : tie.Need-returns
+returns c = count-told (c .before .before .syndrome-weight .ensures) (c .counting-code .ensures) (read-back (record { sfits = c .counting-code .ok }))
 
 pub desklink-syndrome-weight-spec : {M : Type 1} → statement M
 desklink-syndrome-weight-spec =
-    tie.close
-    (tie.spec returns cast-syndrome-weight syndrome-weight-requires weight-code-requires returns-2)
+    tie.close (tie.spec syndrome-weight-requires counting-code-requires returns)

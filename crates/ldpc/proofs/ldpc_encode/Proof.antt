@@ -4,7 +4,7 @@ use native.Mathlib.Omega.{arith}
 use denote.Ref.{now}
 use borrow.Author.Tests.{eq-eqb, ne-eqb}
 use lib.Seq.{ext-getD}
-use Rattle.crc.proofs.Digits.{Bytes}
+use Rattle.bits.proofs.Digits.{Bytes}
 use Rattle.ldpc.specs.Tables.{generator}
 use Rattle.ldpc.proofs.Codeword.{codeword-at, codeword-length}
 use borrow.Author.Needs.{needs}

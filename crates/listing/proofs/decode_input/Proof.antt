@@ -1,7 +1,7 @@
--- `listing::decode_input` meets its contract. The numbers of the header are what the readers read. Assumes nothing.
+-- `listing::decode_input` meets its contract: the batch call with the numbers of the header. Assumes nothing.
+use mathlib.Core.Path.{sym, ap, _∙_}
 use native.Mathlib.Omega.{arith}
-use mathlib.Core.Path.{refl, ap, _∙_}
-use Rattle.listing.specs.Input.{floatOf}
+use Rattle.batch_input.specs.Input.{floatOf}
 use borrow.Author.Needs.{needs}
 use Rattle.listing.proofs.decode_input.Statement.{statement}
 use Rattle.listing.proofs.decode_input.Tie as tie
@@ -27,9 +27,6 @@ u32-at-requires c κs = search needs
 float-of-requires : tie.Need-float-of-requires
 float-of-requires c κs = search needs
 
-slice-aggregate-decode-batch : tie.Need-slice-aggregate-decode-batch
-slice-aggregate-decode-batch c = search needs
-
 decode-batch-requires : tie.Need-decode-batch-requires
 decode-batch-requires c κs = search needs
 
@@ -39,12 +36,21 @@ same-length c = search needs
 same-length-2 : tie.Need-same-length-2
 same-length-2 c = search needs
 
+same-length-3 : tie.Need-same-length-3
+same-length-3 c = search needs
+
+same-length-4 : tie.Need-same-length-4
+same-length-4 c = search needs
+
+same-length-5 : tie.Need-same-length-5
+same-length-5 c = search needs
+
 returns : tie.Need-returns
 returns c =
-    let batch = c .before .before .before .before .before .decode-batch .ensures in
-    let limit = c .before .before .before .before .before .before .before .before .before .before .before .u16-at .ensures in
-    let scale = c .before .before .before .before .before .before .before .before .before .float-of .ensures ∙ ap floatOf (c .before .before .before .before .before .before .before .before .before .before .u32-at .ensures) in
-    (batch .0, (rw (limit, scale) at (batch .1 .0), rw (limit, scale) at (batch .1 .1 .0)))
+    let done = c .before .before .before .before .before .before .before .before .before .before in
+    let scaled = done .before .before .before .before .before .before in
+    let scale = scaled .float-of .ensures ∙ ap floatOf (scaled .before .u32-at .ensures) in
+    rw (sym (scaled .before .before .u16-at .ensures), sym scale) (done .decode-batch .ensures)
 
 pub decode-input-spec : {M : Type 1} → statement M
 decode-input-spec =
@@ -57,8 +63,10 @@ decode-input-spec =
     u16-at-requires
     u32-at-requires
     float-of-requires
-    slice-aggregate-decode-batch
     decode-batch-requires
     same-length
     same-length-2
+    same-length-3
+    same-length-4
+    same-length-5
     returns)

@@ -1,78 +1,123 @@
 -- `listing::frame_lines` meets its contract. The invariant: with the lines that are left put where the loop stands, the buffer holds them all. Assumes nothing.
-use native.Mathlib.Omega.{arith}
-use native.Mathlib.Nat.{add-sub-cancel-left}
-use mathlib.Core.Path.{_≡_, refl, ap, _∙_}
-use mathlib.Core.List.{[]}
+use mathlib.Core.Path.{_≡_, refl, sym, ap, _∙_}
+use mathlib.Core.List.{List, [], _++_}
 use Prim.Native.Nat.{ℕ, _+_, _-_, _*_, _≤_, _<_}
-use lib.ListN.{length, take, drop, getD, length-append}
-use Rattle.batch.proofs.Frames.{part-size}
-use Rattle.clean.specs.Clean.{frameClean}
-use Rattle.listing.specs.Lines.{frameLine, frameLines}
-use Rattle.listing.specs.Listing.{callPairs, callFrames}
-use Rattle.listing.proofs.Put.{Left, left-less, left-none}
-use Rattle.listing.proofs.Frames.{frame-within, frame-next, lines-more, lines-none, frames-many}
+use native.Mathlib.Nat.{suc-mul, zero-mul, sub-zero}
+use native.Mathlib.Numerals.{add-one}
+use native.Mathlib.Omega.{arith}
+use lib.Ieee.{Float}
+use lib.ListN.{length, getD, take, drop, length-append}
+use Rattle.text.proofs.Put.{Left, left-all, left-less, left-none}
+use Rattle.batch.specs.Codes.{sizeK}
+use Rattle.batch.specs.Pairs.{pairsOf, framesOf}
+use Rattle.batch.specs.Calls.{Lent, lent}
+use Rattle.batch.proofs.Frames.{place-fits}
+use Rattle.listing.specs.Lines.{frameLine, lineAt, linesFrom}
+use Rattle.listing.proofs.Lengths.{lines-short}
+use Rattle.listing.proofs.Lines.{lines-more, lines-none, line-is, line-short}
 use borrow.Author.Needs.{needs}
 use Rattle.listing.proofs.frame_lines.Statement.{statement}
 use Rattle.listing.proofs.frame_lines.Tie as tie
 
 abbrev Inv-loop : tie.InvT-loop
-Inv-loop out₀ at code k values pairs counts bits next₀ from₀ j₀ out next from j =
-    let frames = callFrames values pairs in
-    (j ≤ length counts) × (from ≡ j * k) × Left out₀ at (frameLines code k 0 frames counts bits) out next (frameLines code k j (drop j frames) (drop j counts) (drop from bits))
+Inv-loop out₀ at code values pairs bits counts rounds firsts k next₀ from₀ j₀ out next from j =
+    let n = length (pairsOf pairs) in
+    let line = lineAt code (framesOf values (pairsOf pairs)) (lent bits counts rounds firsts []) in
+    (j ≤ n) × (from ≡ j * k) × Left out₀ at (linesFrom line 0 n) out next (linesFrom line j (n - j))
 
 abbrev μ-loop : tie.MeasureT-loop
-μ-loop out₀ at code k values pairs counts bits next₀ from₀ j₀ out next from j = length counts - j
+μ-loop out₀ at code values pairs bits counts rounds firsts k next₀ from₀ j₀ out next from j = length (pairsOf pairs) - j
 
--- in a turn: the frame's bits lie within the slice, and a pair names it
-record Turn (j k from bits pairs frames : ℕ) : Type 0 where
-  front : from + k ≤ bits
-  named : j < pairs
-  place : j < frames
+-- ---- places of the walk
 
-turn : (c : tie.In-loop Inv-loop μ-loop) → let loop = c .before .loop in let a = c .before .before .before .before .before .before .before .args in
-    Turn (loop .j) (a .k) (loop .from) (length (a .bits .now)) (length (callPairs (a .pairs .now))) (length (callFrames (a .values .now) (a .pairs .now)))
+abbrev Loop : Type 0
+Loop = tie.At-loop Inv-loop μ-loop
+
+abbrev Inside : Type 0
+Inside = tie.In-loop Inv-loop μ-loop
+
+abbrev sized : Loop → tie.After-message-bits Inv-loop μ-loop
+sized l = l .before
+
+abbrev start : Loop → tie.Start Inv-loop μ-loop
+start l = sized l .before .before .before .before .before .before .before .before
+
+abbrev many : Loop → ℕ
+many l = length (pairsOf (start l .args .pairs .now))
+
+abbrev frames : Loop → List (List Float)
+frames l = framesOf (start l .args .values .now) (pairsOf (start l .args .pairs .now))
+
+abbrev written : Loop → Lent
+written l = let a = start l .args in lent (a .bits .now) (a .counts .now) (a .rounds .now) (a .firsts .now) []
+
+abbrev line : Loop → ℕ → List ℕ
+line l = lineAt (start l .args .code) (frames l) (written l)
+
+-- the whole text has room
+room : (l : Loop) → start l .args .at + length (linesFrom (line l) 0 (many l)) ≤ length (start l .args .out .now)
+room l =
+    omega (arith, lines-short (line l) (line-short (start l .args .code) (frames l) (written l)) 0 (many l), start l .pre .1 .1 .1 .1)
+
+-- in a turn: there is a frame at place j, its bits lie within all, and its line has room
+record Turn (l : Loop) : Type 0 where
+  place : l .loop .j < many l
+  front : l .loop .from + sized l .message-bits .result ≤ length (start l .args .bits .now)
+  fits : l .loop .next + length (line l (l .loop .j)) ≤ length (l .loop .out)
+
+-- what is left to write, with the line of this turn first
+left-here : (c : Inside) → let l = c .before in let j = l .loop .j in l .loop .j < many l
+    → Left (start l .args .out .now) (start l .args .at) (linesFrom (line l) 0 (many l)) (l .loop .out) (l .loop .next) (line l j ++ linesFrom (line l) (j + 1) (many l - (j + 1)))
+left-here c h = let l = c .before in rw (lines-more (line l) (l .loop .j) (many l) h) at (l .loop .inv .2)
+
+place-at : (c : Inside) → c .before .loop .j < many (c .before)
+place-at c = let l = c .before in omega (arith, c .loop-test .taken, start l .pre .1 .1 .0 .0)
+
+turn : (c : Inside) → Turn (c .before)
 turn c =
-    let start = c .before .before .before .before .before .before .before in
-    let a = start .args in
-    let within = frame-within (a .k) (c .before .loop .j) (length (a .counts .now)) (c .loop-test .taken) in
-    let many = frames-many (a .values .now) (a .pairs .now) in
-    record { front = omega arith; named = omega arith; place = omega arith }
+    let l = c .before in
+    let p = start l .pre in
+    let k = sized l .message-bits .result in
+    let left = left-here c (place-at c) in
+    let bits : many l * k ≡ many l * sizeK (start l .args .code) = ap (λ (x : ℕ). many l * x) (sized l .message-bits .ensures) in
+    record {
+      place = place-at c;
+      front = omega (arith, l .loop .inv .1, p .1 .1 .0 .1, bits, place-fits (l .loop .j) (many l) k (place-at c));
+      fits = omega (arith, left .end, left .size, room l, length-append (line l (l .loop .j)) (linesFrom (line l) (l .loop .j + 1) (many l - (l .loop .j + 1))));
+    }
+
+-- ---- the needs
+
+message-bits-requires : tie.Need-message-bits-requires Inv-loop μ-loop
+message-bits-requires c κs = search needs
 
 loop-holds : tie.Need-loop-holds Inv-loop μ-loop
-loop-holds c = search needs
+loop-holds c = (omega arith, sym (zero-mul _), rw sub-zero (left-all _ _ _))
 
 add-to : tie.Need-add-to Inv-loop μ-loop
 add-to c = omega (arith, turn c .front)
 
-mul-clean-at : tie.Need-mul-clean-at Inv-loop μ-loop
-mul-clean-at c = search needs
-
-shared-slice-read-clean-at : tie.Need-shared-slice-read-clean-at Inv-loop μ-loop
-shared-slice-read-clean-at c = search needs
-
-sub-clean-at : tie.Need-sub-clean-at Inv-loop μ-loop
-sub-clean-at c = search needs
-
-part-clean-at-start : tie.Need-part-clean-at-start Inv-loop μ-loop
-part-clean-at-start c = search needs
-
-part-clean-at-end : tie.Need-part-clean-at-end Inv-loop μ-loop
-part-clean-at-end c = turn (c .before) .front
-
 clean-at-requires : tie.Need-clean-at-requires Inv-loop μ-loop
 clean-at-requires c κs =
-    let start = c .before .before .before .before .before .before .before .before .before in
-    let t = turn (c .before .before) in
-    (start .pre .1 .1 .0, (t .named, part-size (start .args .bits .now) (c .before .before .before .loop .from) (start .args .k) (t .front) ∙ start .pre .1 .0))
+    let p = start (c .before) .pre in
+    (p .0, (p .1 .0, (p .1 .1 .0, place-at c)))
 
 cast-frame-line : tie.Need-cast-frame-line Inv-loop μ-loop
-cast-frame-line c = search needs
+cast-frame-line c = let i = c .before .before in omega (arith, place-at i, start (i .before) .pre .1 .0)
 
 mul-frame-line : tie.Need-mul-frame-line Inv-loop μ-loop
 mul-frame-line c = search needs
 
 shared-slice-read-frame-line : tie.Need-shared-slice-read-frame-line Inv-loop μ-loop
 shared-slice-read-frame-line c = search needs
+
+mul-frame-line-2 : tie.Need-mul-frame-line-2 Inv-loop μ-loop
+mul-frame-line-2 c = search needs
+
+shared-slice-read-frame-line-2 : tie.Need-shared-slice-read-frame-line-2 Inv-loop μ-loop
+shared-slice-read-frame-line-2 c =
+    let i = c .before .before .before .before in
+    omega (arith, place-at i, start (i .before) .pre .1 .1 .1 .0 .0)
 
 sub-frame-line : tie.Need-sub-frame-line Inv-loop μ-loop
 sub-frame-line c = search needs
@@ -81,56 +126,58 @@ part-frame-line-start : tie.Need-part-frame-line-start Inv-loop μ-loop
 part-frame-line-start c = search needs
 
 part-frame-line-end : tie.Need-part-frame-line-end Inv-loop μ-loop
-part-frame-line-end c = turn (c .before .before .before .before .before) .front
+part-frame-line-end c = turn (c .before .before .before .before) .front
+
+mul-frame-line-3 : tie.Need-mul-frame-line-3 Inv-loop μ-loop
+mul-frame-line-3 c = search needs
+
+shared-slice-read-frame-line-3 : tie.Need-shared-slice-read-frame-line-3 Inv-loop μ-loop
+shared-slice-read-frame-line-3 c =
+    let i = c .before .before .before .before .before .before in
+    omega (arith, place-at i, start (i .before) .pre .1 .1 .1 .0 .1)
+
+-- the line that is written is that of the frame at place j
+same-line : (c : tie.After-clean-at Inv-loop μ-loop) → let l = c .before .before in let a = start l .args in let j = l .loop .j in
+    frameLine j (getD (a .counts .now) j 0) (getD (a .rounds .now) j 0) (c .clean-at .result)
+    (take (l .loop .from + sized l .message-bits .result - l .loop .from) (drop (l .loop .from) (a .bits .now))) (getD (a .firsts .now) j 0)
+    ≡ line l j
+same-line c =
+    let l = c .before .before in
+    line-is (start l .args .code) (frames l) (written l) (l .loop .j) _ _ _ (l .loop .inv .1) (sized l .message-bits .ensures) (c .clean-at .ensures)
 
 frame-line-requires : tie.Need-frame-line-requires Inv-loop μ-loop
 frame-line-requires c κs =
-    let start = c .before .before .before .before .before .before .before .before .before .before .before .before .before in
-    let a = start .args in
-    let now = c .before .before .before .before .before .before .before .loop in
-    let frames = callFrames (a .values .now) (a .pairs .now) in
-    let counts = a .counts .now in
-    let bits = a .bits .now in
-    let here = take (a .k) (drop now.from bits) in
-    let line = frameLine now.j (getD counts now.j 0) (frameClean (a .code) (getD frames now.j []) (getD counts now.j 0) here) here in
-    let rest = frameLines (a .code) (a .k) (now.j + 1) (drop (now.j + 1) frames) (drop (now.j + 1) counts) (drop (now.from + a .k) bits) in
-    let more = ap length (lines-more (a .code) (a .k) now.j now.from frames counts bits (turn (c .before .before .before .before .before .before) .place) (c .before .before .before .before .before .before .loop-test .taken)) ∙ length-append line rest in
-    rw (c .before .before .before .clean-at .ensures, add-sub-cancel-left now.from (a .k)) (omega arith)
+    let i = c .before .before .before .before .before in
+    omega (arith, ap length (same-line i), turn (i .before) .fits)
 
 add-j : tie.Need-add-j Inv-loop μ-loop
-add-j c = search needs
+add-j c = let i = c .before .before .before .before .before .before .before .before .before in omega (arith, place-at i, start (i .before) .pre .1 .0)
 
 loop-less : tie.Need-loop-less Inv-loop μ-loop
-loop-less c = search needs
+loop-less c = omega (arith, place-at (c .before .before .before .before .before .before .before .before .before))
 
 loop-again : tie.Need-loop-again Inv-loop μ-loop
 loop-again c =
-    let start = c .before .before .before .before .before .before .before .before .before .before .before .before .before .before .before .before in
-    let a = start .args in
-    let now = c .before .before .before .before .before .before .before .before .before .before .loop in
-    let frames = callFrames (a .values .now) (a .pairs .now) in
-    let counts = a .counts .now in
-    let bits = a .bits .now in
-    let here = take (a .k) (drop now.from bits) in
-    let line = frameLine now.j (getD counts now.j 0) (frameClean (a .code) (getD frames now.j []) (getD counts now.j 0) here) here in
-    let rest = frameLines (a .code) (a .k) (now.j + 1) (drop (now.j + 1) frames) (drop (now.j + 1) counts) (drop (now.from + a .k) bits) in
-    let left = rw (lines-more (a .code) (a .k) now.j now.from frames counts bits (turn (c .before .before .before .before .before .before .before .before .before) .place) (c .before .before .before .before .before .before .before .before .before .loop-test .taken)) at (now .inv .2) in
-    let written = rw (c .before .before .before .before .before .before .clean-at .ensures, add-sub-cancel-left now.from (a .k)) at (c .before .before .frame-line .ensures) in (
-      omega (arith, c .before .before .before .before .before .before .before .before .before .loop-test .taken),
-      omega (arith, frame-next (a .k) now.j, now .inv .1),
-      left-less (a .out .now) (a .at) (frameLines (a .code) (a .k) 0 frames counts bits) now.out now.next line rest _ _ (start .pre .1 .1 .1 .1 .1) left written,
+    let wrote = c .before .before in
+    let i = wrote .before .before .before .before .before .before in
+    let l = i .before .before in
+    let next : (l .loop .j + 1) * sized l .message-bits .result ≡ l .loop .j * sized l .message-bits .result + sized l .message-bits .result =
+    ap (λ (x : ℕ). x * sized l .message-bits .result) (add-one (l .loop .j)) ∙ suc-mul (l .loop .j) (sized l .message-bits .result)
+    in
+    let here = rw (same-line i) at (wrote .frame-line .ensures) in (
+      omega (arith, place-at (i .before)),
+      omega (arith, l .loop .inv .1, next),
+      left-less _ _ _ _ _ _ _ _ _ (room l) (left-here (i .before) (place-at (i .before))) here,
     )
 
 same-length : tie.Need-same-length Inv-loop μ-loop
-same-length c = search needs
+same-length c = c .before .loop .inv .2 .size
 
 returns : tie.Need-returns Inv-loop μ-loop
 returns c =
-    let a = c .before .before .before .before .before .before .before .args in
-    let now = c .before .loop in
-    let frames = callFrames (a .values .now) (a .pairs .now) in
-    let done = lines-none (a .code) (a .k) now.j frames (a .counts .now) (drop now.from (a .bits .now)) (c .loop-test .left) in
-    left-none (a .out .now) (a .at) (frameLines (a .code) (a .k) 0 frames (a .counts .now) (a .bits .now)) now.out now.next (rw done at (now .inv .2))
+    let l = c .before in
+    let end : many l ≤ l .loop .j = omega (arith, c .loop-test .left, start l .pre .1 .1 .0 .0) in
+    left-none _ _ _ _ _ (rw (lines-none (line l) (l .loop .j) (many l) end) at (l .loop .inv .2))
 
 pub frame-lines-spec : {M : Type 1} → statement M
 frame-lines-spec =
@@ -138,20 +185,20 @@ frame-lines-spec =
     (tie.spec
     Inv-loop
     μ-loop
+    message-bits-requires
     loop-holds
     add-to
-    mul-clean-at
-    shared-slice-read-clean-at
-    sub-clean-at
-    part-clean-at-start
-    part-clean-at-end
     clean-at-requires
     cast-frame-line
     mul-frame-line
     shared-slice-read-frame-line
+    mul-frame-line-2
+    shared-slice-read-frame-line-2
     sub-frame-line
     part-frame-line-start
     part-frame-line-end
+    mul-frame-line-3
+    shared-slice-read-frame-line-3
     frame-line-requires
     add-j
     loop-less

@@ -1,9 +1,8 @@
 -- `listing::list` meets its contract. An input that is malformed is refused before all else. Assumes nothing.
+use mathlib.Core.Path.{sym, _∙_}
 use native.Mathlib.Omega.{arith}
-use mathlib.Core.Path.{refl, sym, _∙_}
-use Rattle.listing.specs.Lines.{printed}
-use Rattle.listing.specs.Listing.{programRefusals, listingOf}
-use Rattle.listing.proofs.Bounds.{refusal-short}
+use Rattle.text.proofs.Lengths.{refusal-short}
+use Rattle.listing.specs.Listing.{listingOf}
 use borrow.Author.Needs.{needs}
 use Rattle.listing.proofs.list.Statement.{statement}
 use Rattle.listing.proofs.list.Tie as tie
@@ -18,10 +17,12 @@ same-length : tie.Need-same-length
 same-length c = search needs
 
 returns : tie.Need-returns
-unfolding listingOf printed programRefusals
+unfolding listingOf
 returns c =
-    let short = refusal-short 13 in
-    (rw (sym (c .before .before .before .before .before .is-malformed .ensures) ∙ c .before .before .before .before .if1 .taken) (c .before .before .refusal-line .ensures), omega arith)
+    let done = c .before .before in
+    let test = done .before .before in
+    let wrote = done .refusal-line .ensures in
+    (rw (sym (test .before .is-malformed .ensures) ∙ test .if1 .taken) wrote, omega (arith, wrote .end, refusal-short 13))
 
 list-input-requires : tie.Need-list-input-requires
 list-input-requires c κs = (sym (c .before .before .is-malformed .ensures) ∙ c .before .if1 .left, search needs)
@@ -30,7 +31,7 @@ same-length-2 : tie.Need-same-length-2
 same-length-2 c = search needs
 
 returns-2 : tie.Need-returns-2
-returns-2 c = c .before .before .list-input .ensures
+returns-2 c = search needs
 
 pub list-spec : {M : Type 1} → statement M
 list-spec =

@@ -1,12 +1,50 @@
--- `listing::write_frames` meets its contract. The head line, and then the frames' lines. Assumes nothing.
+-- `listing::write_frames` meets its contract: the head line with the numbers of the header, and then the frames' lines. Assumes nothing.
+use mathlib.Core.Path.{_≡_, ap, ap₂, _∙_}
+use mathlib.Core.List.{List}
+use Prim.Native.Nat.{ℕ, _+_, _*_, _≤_}
 use native.Mathlib.Omega.{arith}
-use mathlib.Core.Path.{refl}
-use Rattle.listing.specs.Listing.{callFrames, framesText}
-use Rattle.listing.proofs.Put.{then}
-use Rattle.listing.proofs.Bounds.{frames-length}
+use lib.ListN.{length}
+use Rattle.text.proofs.Put.{then, room-left}
+use Rattle.batch.specs.Pairs.{pairsOf}
+use Rattle.batch_input.specs.Input.{codeOf, ruleOf, limitOf}
+use Rattle.listing.specs.Lines.{headLine}
+use Rattle.listing.specs.Listing.{framesText}
+use Rattle.listing.proofs.Lengths.{head-short}
 use borrow.Author.Needs.{needs}
 use Rattle.listing.proofs.write_frames.Statement.{statement}
 use Rattle.listing.proofs.write_frames.Tie as tie
+
+-- ---- places of the walk
+
+abbrev entry : tie.After-u16-at2 → tie.Start
+entry c = c .before .before .before .before .before .before .before .before .before .before .before .before
+
+abbrev many : tie.Start → ℕ
+many z = length (pairsOf (z .args .pairs .now))
+
+-- the head line as it is written, and as it is defined
+abbrev head : tie.After-u16-at2 → List ℕ
+head c = let s = entry c .args .input .now in headLine (codeOf s) (ruleOf s) (c .before .u16-at .result) (c .u16-at2 .result)
+
+head-is : (c : tie.After-u16-at2) → let s = entry c .args .input .now in head c ≡ headLine (codeOf s) (ruleOf s) (limitOf s) (many (entry c))
+head-is c =
+    let s = entry c .args .input .now in
+    ap₂ (headLine (codeOf s) (ruleOf s)) (c .before .u16-at .ensures) (c .u16-at2 .ensures ∙ entry c .pre .0 .1)
+
+-- there is room for it and for the lines, before and after it is written
+room : (c : tie.After-u16-at2) → 0 + (length (head c) + 127 * many (entry c)) ≤ length (entry c .args .out .now)
+room c =
+    let s = entry c .args .input .now in
+    let p = entry c .pre .1 .1 in
+    omega (arith, head-short (codeOf s) (ruleOf s) (c .before .u16-at .result) (c .u16-at2 .result), p .0, p .1 .1 .1)
+
+abbrev ready : tie.After-head-line → tie.After-u16-at2
+ready c = c .before .before
+
+left : (c : tie.After-head-line) → c .head-line .result + 127 * many (entry (ready c)) ≤ length (c .head-line .last .0)
+left c = room-left _ _ _ _ _ _ (c .head-line .ensures) (room (ready c))
+
+-- ---- the needs
 
 shared-slice-read-code : tie.Need-shared-slice-read-code
 shared-slice-read-code c = search needs
@@ -15,7 +53,7 @@ shared-slice-read-rule : tie.Need-shared-slice-read-rule
 shared-slice-read-rule c = search needs
 
 cast-rule : tie.Need-cast-rule
-cast-rule c = omega (arith, c .shared-slice-known7 .given 1)
+cast-rule c = omega (arith, c .shared-slice-known9 .given 1)
 
 u16-at-requires : tie.Need-u16-at-requires
 u16-at-requires c κs = search needs
@@ -24,23 +62,19 @@ u16-at-requires-2 : tie.Need-u16-at-requires-2
 u16-at-requires-2 c κs = search needs
 
 cast-head-line : tie.Need-cast-head-line
-cast-head-line c = omega (arith, c .before .before .before .before .shared-slice-known6 .given 0)
+cast-head-line c = omega (arith, c .before .before .before .before .shared-slice-known8 .given 0)
 
 head-line-requires : tie.Need-head-line-requires
-head-line-requires c κs =
-    let start = c .before .before .before .before .before .before .before .before .before .before .before in
-    let room = frames-length (start .args .input .now) (start .args .k) (callFrames (start .args .values .now) (start .args .pairs .now)) (start .args .counts .now) (start .args .bits .now) in
-    rw (c .before .before .u16-at .ensures, c .before .u16-at2 .ensures) (omega arith)
+head-line-requires c κs = omega (arith, room (c .before))
 
 cast-frame-lines : tie.Need-cast-frame-lines
-cast-frame-lines c = omega (arith, c .before .before .before .before .before .before .before .before .shared-slice-known6 .given 0)
+cast-frame-lines c = omega (arith, ready (c .before .before .before) .before .before .before .shared-slice-known8 .given 0)
 
 frame-lines-requires : tie.Need-frame-lines-requires
 frame-lines-requires c κs =
-    let start = c .before .before .before .before .before .before .before .before .before .before .before .before .before .before .before in
-    let room = frames-length (start .args .input .now) (start .args .k) (callFrames (start .args .values .now) (start .args .pairs .now)) (start .args .counts .now) (start .args .bits .now) in
-    let head = rw (c .before .before .before .before .before .before .u16-at .ensures, c .before .before .before .before .before .u16-at2 .ensures) at (c .before .before .before .head-line .ensures) in
-    (start .pre .1 .0, (start .pre .1 .1 .0, (start .pre .1 .1 .1 .0, (start .pre .1 .1 .1 .1 .0, (start .pre .1 .1 .1 .1 .1 .0, omega arith)))))
+    let wrote = c .before .before .before in
+    let p = entry (ready wrote) .pre .1 in
+    (p .0, (p .1 .0, (p .1 .1 .0, (p .1 .1 .1 .0, left wrote))))
 
 same-length : tie.Need-same-length
 same-length c = search needs
@@ -48,10 +82,10 @@ same-length c = search needs
 returns : tie.Need-returns
 unfolding framesText
 returns c =
-    let start = c .before .before .before .before .before .before .before .before .before .before .before .before .before .before .before .before .before .before in
-    let room = frames-length (start .args .input .now) (start .args .k) (callFrames (start .args .values .now) (start .args .pairs .now)) (start .args .counts .now) (start .args .bits .now) in
-    let head = rw (c .before .before .before .before .before .before .before .before .before .u16-at .ensures, c .before .before .before .before .before .before .before .before .u16-at2 .ensures) at (c .before .before .before .before .before .before .head-line .ensures) in
-    then head (omega arith) (c .before .before .frame-lines .ensures)
+    let done = c .before .before in
+    let wrote = done .before .before .before .before in
+    let r = ready wrote in
+    then (rw (head-is r) at (wrote .head-line .ensures)) (omega (arith, room r, ap length (head-is r))) (done .frame-lines .ensures)
 
 pub write-frames-spec : {M : Type 1} → statement M
 write-frames-spec =

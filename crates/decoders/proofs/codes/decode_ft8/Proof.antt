@@ -1,6 +1,5 @@
 -- `decoders::decode_ft8` meets its contract: the decode at the code's graph. Assumes nothing.
 use native.Mathlib.Omega.{arith}
-use Rattle.softmath.specs.declared.DecodeRule.the-variants.{Ft8}
 use Rattle.softmath.specs.declared.SumKind.the-variants.{Others}
 use Rattle.belief.proofs.Laid.{chose-laid}
 use Rattle.ldpc.specs.Code174.{checks}
@@ -42,7 +41,7 @@ returns : tie.Need-returns
 unfolding checkStart checkBits bitStart bitEdge
 returns c =
     let done = c .before .before .before .before .decode in
-    (chose-laid checks 174 checkStart checkBits bitStart bitEdge ft8.check-start ft8.check-bits ft8.bit-start ft8.bit-edges Ft8 Others _ _ _ _ _ (done .ensures .0) (done .ensures .1 .0), done .ensures .1 .1)
+    (chose-laid checks 174 checkStart checkBits bitStart bitEdge ft8.check-start ft8.check-bits ft8.bit-start ft8.bit-edges _ Others _ _ _ _ _ (done .ensures .0), done .ensures .1)
 
 pub decode-ft8-spec : {M : Type 1} → statement M
 decode-ft8-spec =

@@ -13,23 +13,18 @@ use Rattle.decoders.proofs.codes.decode_n576r23.Reads as reads
 use Rattle.decoders.proofs.codes.decode_n576r23.Lts as lts
 use Rattle.belief.proofs.decode.Reads as decode-reads
 
--- src/codes.rt:75:9
 slice-aggregate-decode : tie.Need-slice-aggregate-decode
 slice-aggregate-decode c = search needs
 
--- src/codes.rt:76:9
 slice-aggregate-decode-2 : tie.Need-slice-aggregate-decode-2
 slice-aggregate-decode-2 c = search needs
 
--- src/codes.rt:77:9
 slice-aggregate-decode-3 : tie.Need-slice-aggregate-decode-3
 slice-aggregate-decode-3 c = search needs
 
--- src/codes.rt:78:9
 slice-aggregate-decode-4 : tie.Need-slice-aggregate-decode-4
 slice-aggregate-decode-4 c = search needs
 
--- src/codes.rt:71:9
 decode-requires : tie.Need-decode-requires
 unfolding checkStarts1 checkBits1 edgeStarts1 edges1
 decode-requires c κs =
@@ -38,21 +33,18 @@ decode-requires c κs =
       (omega arith, (omega arith, start .pre .1 .1)),
     )
 
--- src/codes.rt:58:1
 same-length : tie.Need-same-length
 same-length c = search needs
 
--- src/codes.rt:58:1
 same-length-2 : tie.Need-same-length-2
 same-length-2 c = search needs
 
--- src/codes.rt:58:1
 returns : tie.Need-returns
 unfolding checkStarts1 checkBits1 edgeStarts1 edges1
 returns c =
     let done = c .before .before .before .before .decode in (
-      chose-laid (checks n576r23) _ checkStarts1 checkBits1 edgeStarts1 edges1 check-starts-right1 check-bits-right1 edge-starts-right1 edges-right1 _ Total _ _ _ _ _ (done .ensures .0) (done .ensures .1 .0),
-      done .ensures .1 .1,
+      chose-laid (checks n576r23) _ checkStarts1 checkBits1 edgeStarts1 edges1 check-starts-right1 check-bits-right1 edge-starts-right1 edges-right1 _ Total _ _ _ _ _ (done .ensures .0),
+      done .ensures .1,
     )
 
 pub decode-n576r23-spec : {M : Type 1} → statement M

@@ -1,0 +1,4 @@
+pub mod Load
+pub mod Room
+pub mod Wellformed
+pub mod Handed

@@ -1,0 +1,3 @@
+pub mod AreBits
+pub mod Digits
+pub mod Packed

@@ -1,0 +1,2 @@
+pub mod CleanFrames
+pub mod Limits

@@ -1,0 +1,30 @@
+// Whether the frames of a batch are clean, of what its call wrote.
+ghost use mathlib.Core.Path.{_≡_};
+ghost use Prim.Native.Nat.{_*_, _<_, _≤_};
+ghost use lib.ListN.{length};
+ghost use Rattle.batch.specs.Codes.{sizeN, sizeK};
+ghost use Rattle.batch.specs.Pairs.{pairsOf, framesOf, AllWithin};
+ghost use Rattle.clean_frames.specs.CleanFrames.{cleanOf};
+
+// Whether the frame that pair j names is clean, with its count and its bits among those of all frames.
+pub fn clean_at(
+    code: u32,
+    values: &[f32],
+    pairs: &[u32],
+    j: usize,
+    counts: &[u16],
+    bits: &[u8],
+) -> bool
+    requires { ⌜ AllWithin (sizeN code) (length (now values)) (pairsOf (now pairs)) ⌝ }
+    requires { ⌜ length (pairsOf (now pairs)) ≤ 24 ⌝ }
+    requires { ⌜ (length (now counts) ≡ length (pairsOf (now pairs))) × (length (now bits) ≡ length (pairsOf (now pairs)) * sizeK code) ⌝ }
+    requires { ⌜ j < length (pairsOf (now pairs)) ⌝ }
+    ensures { λ r. ⌜ r ≡ cleanOf code (framesOf (now (values .entry)) (pairsOf (now (pairs .entry)))) (now (counts .entry)) (now (bits .entry)) j ⌝ }
+{
+    let from = pairs[j * 2] as usize;
+    let to = from + batch::frame_values(code);
+    let k = batch::message_bits(code);
+    let at = j * k;
+    let end = at + k;
+    clean::is_clean(code, &values[from..to], counts[j], &bits[at..end])
+}

@@ -1,0 +1,29 @@
+-- The calls of the decoders, as C sees them, from the calls beneath and the numbers that tell their answers. Assumes nothing.
+use mathlib.Core.Path.{_≡_, subst, ap, _∙_}
+use mathlib.Core.List.{List}
+use Prim.Native.Nat.{ℕ}
+use lib.Ieee.{Float}
+use lib.IntN.{ℤ}
+use Rattle.refusal.specs.Outcome.{Outcome, judged}
+use Rattle.tanner.specs.Checks.{Syndrome}
+use Rattle.belief.specs.Chosen.{Told}
+use Rattle.decoders.specs.Calls as decoders
+use Rattle.batch.specs.Calls as batch
+use Rattle.desklink.specs.Coded.{codedUnit, Lent, Counts, Decodes}
+use Rattle.desklink.specs.Calls.{DecodeCall, BatchCall}
+
+-- z is what was stored, and n what is read back of it
+
+pub count-told : {answer outcome : Outcome Syndrome} {z n : ℤ} {first : Lent} → answer ≡ outcome → Counts answer z first → n ≡ z → Counts outcome n first
+count-told {answer} {outcome} {z} {n} {first} same c read =
+    subst (λ (o : Outcome Syndrome). Counts o n first) same (record { itsCount = read ∙ c .itsCount; itsFirst = c .itsFirst })
+
+pub decode-told : (s : decoders.Single) {answer : Outcome Told} {bits : List ℕ} {work : List Float} {z n : ℤ} {rounds first : Lent} → decoders.Answered s answer bits work → Decodes answer z rounds first → n ≡ z → DecodeCall s n rounds first bits work
+decode-told s {answer} {bits} {work} {z} {n} {rounds} {first} a d read = record {
+  tells = subst (λ (o : Outcome Told). Decodes o n rounds first) (a .tells) (record { itsCount = read ∙ d .itsCount; itsRounds = d .itsRounds; itsFirst = d .itsFirst });
+  itsBits = a .itsBits;
+  itsWork = a .itsWork;
+}
+
+pub batch-told : (b : batch.Batch) {answer : Outcome Unit} {left : batch.Lent} {z n : ℤ} → batch.Answered b answer left → z ≡ codedUnit answer → n ≡ z → BatchCall b n left
+batch-told b a coded read = record { says = read ∙ coded ∙ ap codedUnit (a .says); leaves = a .leaves }

@@ -1,0 +1,97 @@
+-- The groups' bytes: one group's, and what is left to be done after it. Assumes nothing.
+use mathlib.Core.Path.{_≡_, refl, sym, ap, ap₂, _∙_}
+use mathlib.Core.Bool.{Bool, true, false}
+use mathlib.Core.List.{List, [], _∷_, _++_, append-assoc}
+use Prim.Native.Nat.{ℕ, suc, _+_, _-_, _*_, _<_, _≤_}
+use native.Mathlib.Nat.{add-mul, mul-le-mul}
+use native.Mathlib.Numerals.{add-one}
+use native.Mathlib.Omega.{arith}
+use borrow.Rule.Slice.PartMut.{postOf, putMid, same-len-mid, drop-put}
+use lib.ListN.{length, getD, take, drop, replicate, length-replicate, length-drop}
+use lib.Seq.{drop-cons, drop-drop, length-take-le, take-append-add, take-append-seam}
+use Rattle.groups.specs.Groups.{total, all, groupBits, delivered}
+
+-- ---- one group
+
+pub held : (t : Bool) (bits : List ℕ) → t ≡ true → bits ≡ groupBits t bits
+held true bits e = refl
+held false bits e = cc
+
+pub withheld : (t : Bool) (bits : List ℕ) → t ≡ false → replicate (length bits) 255 ≡ groupBits t bits
+withheld true bits e = cc
+withheld false bits e = refl
+
+pub group-length : (t : Bool) (bits : List ℕ) → length (groupBits t bits) ≡ length bits
+group-length true bits = refl
+group-length false bits = length-replicate {A = ℕ} (length bits) 255
+
+-- ---- the groups from group g on, which take the frames from place `at` on
+
+pub total-next : (sizes : List ℕ) (g : ℕ) → g < length sizes → total (drop g sizes) ≡ getD sizes g 0 + total (drop (g + 1) sizes)
+unfolding total
+total-next sizes g h = ap total (drop-cons sizes g 0 h) ∙ rw add-one refl
+
+module _ (k : ℕ) (sizes : List ℕ) (clean : List Bool) (at g : ℕ) (h : g < length sizes) (fits : at + total (drop g sizes) ≤ length clean) where
+  abbrev n : ℕ
+  n = getD sizes g 0
+
+  abbrev from : ℕ
+  from = at * k
+
+  abbrev to : ℕ
+  to = (at + n) * k
+
+  pub frames-fit : at + n ≤ length clean
+  frames-fit = omega (arith, fits, total-next sizes g h)
+
+  pub rest-fits : at + n + total (drop (g + 1) sizes) ≤ length clean
+  rest-fits = omega (arith, fits, total-next sizes g h)
+
+  span : to ≡ from + n * k
+  span = add-mul at n k
+
+  pub bytes-fit : (bits : List ℕ) → length bits ≡ length clean * k → (from ≤ to) × (to ≤ length bits)
+  bytes-fit bits size = (omega (arith, span), omega (arith, size, mul-le-mul {n₁ = at + n} {m₁ = k} {n₂ = length clean} {m₂ = k} frames-fit (omega arith)))
+
+  -- a group's bytes put in their place
+  module _ (bits part : List ℕ) (size : length bits ≡ length clean * k) (new : part ≡ groupBits (all (take (at + n - at) (drop at clean))) (take (to - from) (drop from bits))) where
+    abbrev next : List ℕ
+    next = putMid from (to - from) bits part
+
+    part-length : length part ≡ to - from
+    part-length =
+        let fit = bytes-fit bits size in
+        ap length new ∙ group-length (all (take (at + n - at) (drop at clean))) (take (to - from) (drop from bits))
+        ∙ length-take-le (to - from) (drop from bits) (simp length-drop (omega (arith, fit .0, fit .1)))
+
+    pub next-length : length next ≡ length clean * k
+    next-length =
+        let fit = bytes-fit bits size in
+        let mid = length-take-le (to - from) (drop from bits) (simp length-drop (omega (arith, fit .0, fit .1))) in
+        same-len-mid from (to - from) bits part (part-length ∙ sym mid) ∙ size
+
+    passed : take to next ≡ take from bits ++ part
+    passed =
+        let fit = bytes-fit bits size in
+        let front = length-take-le from bits (omega (arith, fit .0, fit .1)) in
+        let e : to ≡ length (take from bits) + length part = omega (arith, front, part-length, fit .0) in
+        let after = postOf from (to - from) bits in
+        ap (λ (m : ℕ). take m next) e ∙ take-append-add (take from bits) (part ++ after) (length part) ∙ ap (λ (l : List ℕ). take from bits ++ l) (take-append-seam part after)
+
+    left : drop to next ≡ drop to bits
+    left = let fit = bytes-fit bits size in drop-put from to bits part (fit .0) (fit .1) part-length
+
+    pub next-group : (all-bits : List ℕ) → delivered k sizes clean all-bits ≡ take from bits ++ delivered k (drop g sizes) (drop at clean) (drop from bits)
+        → delivered k sizes clean all-bits ≡ take to next ++ delivered k (drop (g + 1) sizes) (drop (at + n) clean) (drop to next)
+    unfolding delivered
+    next-group all-bits so =
+        let m : at + n - at ≡ n = omega arith in
+        let bytes : to - from ≡ n * k = omega (arith, span) in
+        let group = groupBits (all (take n (drop at clean))) (take (n * k) (drop from bits)) in
+        let rest = delivered k (drop (suc g) sizes) (drop n (drop at clean)) (drop (n * k) (drop from bits)) in
+        let one : part ≡ group = rw (m, bytes) at new in
+        let ends : drop (n * k) (drop from bits) ≡ drop to bits = drop-drop (n * k) from bits ∙ ap (λ (e : ℕ). drop e bits) (sym span) in
+        so ∙ ap (λ (l : List ℕ). take from bits ++ delivered k l (drop at clean) (drop from bits)) (drop-cons sizes g 0 h)
+        ∙ sym (append-assoc (take from bits) group rest)
+        ∙ ap₂ _++_ (ap (λ (l : List ℕ). take from bits ++ l) (sym one) ∙ sym passed)
+        (rw (add-one, drop-drop n at clean, ends, left) refl)

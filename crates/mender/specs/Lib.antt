@@ -1,3 +1,0 @@
-pub mod Mend
-pub mod Promise
-pub mod Calls
