@@ -1,0 +1,9 @@
+pub mod Rounded
+pub mod Laws
+pub mod Sizes
+pub mod Tanh
+pub mod Products
+pub mod Answers
+pub mod Corner
+pub mod Pole
+pub mod Floor
