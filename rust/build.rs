@@ -24,13 +24,13 @@ fn link(root: &Path) {
     println!("cargo::rustc-link-lib=static=desklink");
 }
 
-/// The path of each original file, where the folder has all three.
-fn originals(folder: &Path) -> Option<Vec<(&'static str, PathBuf)>> {
+/// The path of each original file, where the folder has all three; or else the name of one that it lacks.
+fn originals(folder: &Path) -> Result<Vec<(&'static str, PathBuf)>, &'static str> {
     SOURCES
         .iter()
         .map(|(module, names)| {
-            let found = names.iter().map(|name| folder.join(name)).find(|path| path.is_file())?;
-            Some((*module, found.canonicalize().ok()?))
+            let found = names.iter().map(|name| folder.join(name)).find(|path| path.is_file()).ok_or(names[0])?;
+            Ok((*module, found.canonicalize().map_err(|_| names[0])?))
         })
         .collect()
 }
@@ -46,14 +46,20 @@ fn module(here: &Path, name: &str, original: &Path) -> String {
 fn reference(here: &Path, root: &Path) {
     println!("cargo::rerun-if-env-changed=ORION_SRC");
     println!("cargo::rustc-check-cfg=cfg(orion)");
-    let folder = env::var_os("ORION_SRC").map_or(root.join("../shared/docs"), PathBuf::from);
+    let named = env::var_os("ORION_SRC").map(PathBuf::from);
+    let folder = named.clone().unwrap_or(root.join("../shared/docs"));
     let mut text = String::new();
-    if let Some(files) = originals(&folder) {
-        println!("cargo::rustc-cfg=orion");
-        for (name, path) in files {
-            println!("cargo::rerun-if-changed={}", path.display());
-            text += &module(here, name, &path);
+    match originals(&folder) {
+        Ok(files) => {
+            println!("cargo::rustc-cfg=orion");
+            for (name, path) in files {
+                println!("cargo::rerun-if-changed={}", path.display());
+                text += &module(here, name, &path);
+            }
         }
+        // A folder that was named has to have them; without one the comparison itself says what is missing.
+        Err(lacking) if named.is_some() => println!("cargo::error=ORION_SRC is {}, which has no {lacking}", folder.display()),
+        Err(_) => {}
     }
     let out = PathBuf::from(env::var_os("OUT_DIR").expect("cargo sets OUT_DIR")).join("orion.rs");
     fs::write(out, text).expect("OUT_DIR can be written");
