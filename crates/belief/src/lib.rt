@@ -77,7 +77,8 @@ fn check_pass(rule: DecodeRule, check_start: &[u16], messages: &mut [f32])
 fn answer_pass(rule: DecodeRule, check_start: &[u16], messages: &mut [f32])
     requires { ⌜ 0 < length (now «check_start») ⌝ }
     requires { ⌜ Within (now «check_start») (length (now messages)) ⌝ }
-    ensures { λ _. ⌜ now (messages .exit) ≡ map (after rule) (onFrom (middle rule) (now («check_start» .entry)) 0 (map (before rule) (now (messages .entry)))) ⌝ }
+    ensures { λ _. ⌜ now (messages .exit)
+        ≡ map (after rule) (onFrom (middle rule) (now («check_start» .entry)) 0 (map (before rule) (now (messages .entry)))) ⌝ }
 {
     softmath::before_checks(rule, messages);
     check_pass(rule, check_start, messages);
@@ -95,7 +96,9 @@ fn bit_pass(
 )
     requires { ⌜ BitsWithin (now «bit_start») (now «bit_edges») (length (now llr)) (length (now messages)) ⌝ }
     requires { ⌜ length (now hard) ≡ length (now llr) ⌝ }
-    ensures { λ _. ⌜ passOf (now (hard .exit)) (now (messages .exit)) ≡ turns (bitTurn kind (now (llr .entry)) (now («bit_start» .entry)) (now («bit_edges» .entry))) (length (now (llr .entry))) (passOf (now (hard .entry)) (now (messages .entry))) ⌝ }
+    ensures { λ _. ⌜ passOf (now (hard .exit)) (now (messages .exit))
+        ≡ turns (bitTurn kind (now (llr .entry)) (now («bit_start» .entry)) (now («bit_edges» .entry))) (length (now (llr .entry)))
+        (passOf (now (hard .entry)) (now (messages .entry))) ⌝ }
 {
     let mut b = 0;
     while b < llr.len() {
@@ -121,7 +124,8 @@ fn round(
     requires { ⌜ Graph (now «check_start») (now «check_bits») (now «bit_start») (now «bit_edges») (length (now llr)) ⌝ }
     requires { ⌜ length (now messages) ≡ length (now «check_bits») ⌝ }
     requires { ⌜ length (now hard) ≡ length (now llr) ⌝ }
-    ensures { λ r. ⌜ RoundDone (decodeAt rule kind (now («check_start» .entry)) (now («check_bits» .entry)) (now (llr .entry))) (now (messages .entry)) (now (messages .exit)) (now (hard .exit)) r ⌝ }
+    ensures { λ r. ⌜ RoundDone (decodeAt rule kind (now («check_start» .entry)) (now («check_bits» .entry)) (now (llr .entry)))
+        (now (messages .entry)) (now (messages .exit)) (now (hard .exit)) r ⌝ }
 {
     answer_pass(rule, check_start, messages);
     bit_pass(kind, llr, bit_start, bit_edges, messages, hard);

@@ -53,7 +53,8 @@ fn write_values(bytes: &[i8], positive_is_one: bool, values: &mut [f32])
 // Each byte times 0.125, negated for the models that count positive as 1.
 pub fn values_of_bytes(bytes: &[i8], positive_is_one: bool, values: &mut [f32]) -> Status
     ensures { λ r. ⌜ statusOf r ≡ judged (bytesRefusals (now (bytes .entry)) (now (values .entry))) tt ⌝ }
-    ensures { λ _. ⌜ now (values .exit) ≡ kept (bytesRefusals (now (bytes .entry)) (now (values .entry))) (now (values .entry)) (valuesOf «positive_is_one» (now (bytes .entry))) ⌝ }
+    ensures { λ _. ⌜ now (values .exit)
+        ≡ kept (bytesRefusals (now (bytes .entry)) (now (values .entry))) (now (values .entry)) (valuesOf «positive_is_one» (now (bytes .entry))) ⌝ }
 {
     if bytes.len() != values.len() {
         return Status::Refused(Refusal::InputLength);
@@ -147,7 +148,8 @@ fn write_bytes(values: &[f32], positive_is_one: bool, bytes: &mut [i8])
 // Eight times each value, negated for the models that count positive as 1.
 pub fn bytes_of_values(values: &[f32], positive_is_one: bool, bytes: &mut [i8]) -> Status
     ensures { λ r. ⌜ statusOf r ≡ judged (valuesRefusals (now (values .entry)) (now (bytes .entry))) tt ⌝ }
-    ensures { λ _. ⌜ now (bytes .exit) ≡ kept (valuesRefusals (now (values .entry)) (now (bytes .entry))) (now (bytes .entry)) (bytesOf «positive_is_one» (now (values .entry))) ⌝ }
+    ensures { λ _. ⌜ now (bytes .exit)
+        ≡ kept (valuesRefusals (now (values .entry)) (now (bytes .entry))) (now (bytes .entry)) (bytesOf «positive_is_one» (now (values .entry))) ⌝ }
 {
     if values.len() != bytes.len() {
         return Status::Refused(Refusal::InputLength);

@@ -108,9 +108,15 @@ fn fill(starts: &[u16], flat: &[u16], word: &mut [u8], places: &mut [u16]) -> u1
 fn fill_over(starts: &[u16], flat: &[u16], n: usize, word: &mut [u8], places: &mut [u16]) -> Answer
     requires { ⌜ FlatChecks (now starts) (now flat) n ⌝ }
     requires { ⌜ n < 65536 ⌝ }
-    ensures { λ r. ⌜ answerOf r ≡ judged (wordRefusals n (now (word .entry)) (now (places .entry))) (length (filledPlaces (rowsOf (now (starts .entry)) (now (flat .entry))) (now (word .entry)))) ⌝ }
-    ensures { λ _. ⌜ now (word .exit) ≡ kept (wordRefusals n (now (word .entry)) (now (places .entry))) (now (word .entry)) (filledWord (rowsOf (now (starts .entry)) (now (flat .entry))) (now (word .entry))) ⌝ }
-    ensures { λ _. ⌜ now (places .exit) ≡ kept (wordRefusals n (now (word .entry)) (now (places .entry))) (now (places .entry)) (listed (filledPlaces (rowsOf (now (starts .entry)) (now (flat .entry))) (now (word .entry))) (now (places .entry))) ⌝ }
+    ensures { λ r. ⌜ answerOf r
+        ≡ judged (wordRefusals n (now (word .entry)) (now (places .entry)))
+        (length (filledPlaces (rowsOf (now (starts .entry)) (now (flat .entry))) (now (word .entry)))) ⌝ }
+    ensures { λ _. ⌜ now (word .exit)
+        ≡ kept (wordRefusals n (now (word .entry)) (now (places .entry))) (now (word .entry))
+        (filledWord (rowsOf (now (starts .entry)) (now (flat .entry))) (now (word .entry))) ⌝ }
+    ensures { λ _. ⌜ now (places .exit)
+        ≡ kept (wordRefusals n (now (word .entry)) (now (places .entry))) (now (places .entry))
+        (listed (filledPlaces (rowsOf (now (starts .entry)) (now (flat .entry))) (now (word .entry))) (now (places .entry))) ⌝ }
 {
     if word.len() != n {
         return Answer::Refused(Refusal::InputLength);
@@ -126,9 +132,13 @@ fn fill_over(starts: &[u16], flat: &[u16], n: usize, word: &mut [u8], places: &m
 
 // Fills a word of the code with that number: sets the unknown bits that its checks decide, and lists their positions.
 pub fn fill_erasures(code: u32, word: &mut [u8], places: &mut [u16]) -> Answer
-    ensures { λ r. ⌜ answerOf r ≡ judged (erasureRefusals code (now (word .entry)) (now (places .entry))) (length (filledPlaces (checksBy code) (now (word .entry)))) ⌝ }
-    ensures { λ _. ⌜ now (word .exit) ≡ kept (erasureRefusals code (now (word .entry)) (now (places .entry))) (now (word .entry)) (filledWord (checksBy code) (now (word .entry))) ⌝ }
-    ensures { λ _. ⌜ now (places .exit) ≡ kept (erasureRefusals code (now (word .entry)) (now (places .entry))) (now (places .entry)) (listed (filledPlaces (checksBy code) (now (word .entry))) (now (places .entry))) ⌝ }
+    ensures { λ r. ⌜ answerOf r
+        ≡ judged (erasureRefusals code (now (word .entry)) (now (places .entry))) (length (filledPlaces (checksBy code) (now (word .entry)))) ⌝ }
+    ensures { λ _. ⌜ now (word .exit)
+        ≡ kept (erasureRefusals code (now (word .entry)) (now (places .entry))) (now (word .entry)) (filledWord (checksBy code) (now (word .entry))) ⌝ }
+    ensures { λ _. ⌜ now (places .exit)
+        ≡ kept (erasureRefusals code (now (word .entry)) (now (places .entry))) (now (places .entry))
+        (listed (filledPlaces (checksBy code) (now (word .entry))) (now (places .entry))) ⌝ }
 {
     if code == 0 {
         return fill_over(

@@ -123,7 +123,8 @@ fn fill(generator: &[u8], message: &[u8], codeword: &mut [u8])
 
 pub fn ldpc_encode(message: &[u8], codeword: &mut [u8]) -> Status
     ensures { λ r. ⌜ statusOf r ≡ judged (encodeRefusals (now (message .entry)) (now (codeword .entry))) tt ⌝ }
-    ensures { λ _. ⌜ now (codeword .exit) ≡ kept (encodeRefusals (now (message .entry)) (now (codeword .entry))) (now (codeword .entry)) (codewordOf (now (message .entry))) ⌝ }
+    ensures { λ _. ⌜ now (codeword .exit)
+        ≡ kept (encodeRefusals (now (message .entry)) (now (codeword .entry))) (now (codeword .entry)) (codewordOf (now (message .entry))) ⌝ }
 {
     if message.len() != K_BYTES {
         return Status::Refused(Refusal::InputLength);

@@ -39,7 +39,8 @@ fn parity_bit(starts: &[u16], flat: &[u16], codeword: &mut [u8], at: usize)
     requires { ⌜ FlatChecks (now starts) (now flat) (length (now codeword)) ⌝ }
     requires { ⌜ length (now starts) ≤ 2 ⌝ }
     requires { ⌜ at < length (now codeword) ⌝ }
-    ensures { λ _. ⌜ now (codeword .exit) ≡ set (now (codeword .entry)) at (countMasked 1 (rowsOf (now (starts .entry)) (now (flat .entry))) (set (now (codeword .entry)) at 0)) ⌝ }
+    ensures { λ _. ⌜ now (codeword .exit)
+        ≡ set (now (codeword .entry)) at (countMasked 1 (rowsOf (now (starts .entry)) (now (flat .entry))) (set (now (codeword .entry)) at 0)) ⌝ }
 {
     codeword[at] = 0;
     let p = tanner::count_masked(starts, flat, codeword, 1);
@@ -73,7 +74,9 @@ fn encode_over(
     requires { ⌜ FlatChecks (now starts) (now flat) n ⌝ }
     requires { ⌜ k + (length (now starts) - 1) ≡ n ⌝ }
     ensures { λ r. ⌜ statusOf r ≡ judged (lengthRefusals k n (now (message .entry)) (now (codeword .entry))) tt ⌝ }
-    ensures { λ r. ⌜ now (codeword .exit) ≡ kept (lengthRefusals k n (now (message .entry)) (now (codeword .entry))) (now (codeword .entry)) (filled (rowsOf (now (starts .entry)) (now (flat .entry))) k (now (message .entry) ++ drop (length (now (message .entry))) (now (codeword .entry)))) ⌝ }
+    ensures { λ r. ⌜ now (codeword .exit)
+        ≡ kept (lengthRefusals k n (now (message .entry)) (now (codeword .entry))) (now (codeword .entry))
+        (filled (rowsOf (now (starts .entry)) (now (flat .entry))) k (now (message .entry) ++ drop (length (now (message .entry))) (now (codeword .entry)))) ⌝ }
 {
     if message.len() != k {
         return Status::Refused(Refusal::InputLength);
@@ -89,7 +92,8 @@ fn encode_over(
 // The codeword of a message of K bytes, whose low bits are its bits.
 pub fn encode(code: u32, message: &[u8], codeword: &mut [u8]) -> Status
     ensures { λ r. ⌜ statusOf r ≡ judged (encodeRefusals code (now (message .entry)) (now (codeword .entry))) tt ⌝ }
-    ensures { λ r. ⌜ now (codeword .exit) ≡ kept (encodeRefusals code (now (message .entry)) (now (codeword .entry))) (now (codeword .entry)) (encodedBy code (now (message .entry))) ⌝ }
+    ensures { λ r. ⌜ now (codeword .exit)
+        ≡ kept (encodeRefusals code (now (message .entry)) (now (codeword .entry))) (now (codeword .entry)) (encodedBy code (now (message .entry))) ⌝ }
 {
     if code == 0 {
         return encode_over(
@@ -127,7 +131,8 @@ pub fn encode(code: u32, message: &[u8], codeword: &mut [u8]) -> Status
 // The count and the first unsatisfied check of a word over a code's checks, with its length tested.
 fn weight_over(starts: &[u16], flat: &[u16], n: usize, hard: &[u8]) -> Counting
     requires { ⌜ FlatChecks (now starts) (now flat) n ⌝ }
-    ensures { λ r. ⌜ countingOf r ≡ judged (shortRefusals n (now (hard .entry))) (syndromeMasked 1 (rowsOf (now (starts .entry)) (now (flat .entry))) (now (hard .entry))) ⌝ }
+    ensures { λ r. ⌜ countingOf r
+        ≡ judged (shortRefusals n (now (hard .entry))) (syndromeMasked 1 (rowsOf (now (starts .entry)) (now (flat .entry))) (now (hard .entry))) ⌝ }
 {
     if hard.len() < n {
         return Counting::Refused(Refusal::WordTooShort);
