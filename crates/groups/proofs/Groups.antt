@@ -7,7 +7,7 @@ use native.Mathlib.Nat.{add-mul, mul-le-mul}
 use native.Mathlib.Numerals.{add-one}
 use native.Mathlib.Omega.{arith}
 use borrow.Rule.Slice.PartMut.{postOf, putMid, same-len-mid, drop-put}
-use lib.ListN.{length, getD, take, drop, replicate, length-replicate, length-drop}
+use lib.ListN.{length, getD, take, drop, replicate, length-replicate, length-drop, drop-of-length-le, take-append-drop}
 use lib.Seq.{drop-cons, drop-drop, length-take-le, take-append-add, take-append-seam}
 use Rattle.groups.specs.Groups.{total, all, groupBits, delivered}
 
@@ -95,3 +95,10 @@ module _ (k : ℕ) (sizes : List ℕ) (clean : List Bool) (at g : ℕ) (h : g < 
         ∙ sym (append-assoc (take from bits) group rest)
         ∙ ap₂ _++_ (ap (λ (l : List ℕ). take from bits ++ l) (sym one) ∙ sym passed)
         (rw (add-one, drop-drop n at clean, ends, left) refl)
+
+-- after the last group
+pub all-closed : (k : ℕ) (sizes : List ℕ) (clean : List Bool) (before bits : List ℕ) (at g : ℕ) → length sizes ≤ g
+    → delivered k sizes clean before ≡ take (at * k) bits ++ delivered k (drop g sizes) (drop at clean) (drop (at * k) bits) → bits ≡ delivered k sizes clean before
+unfolding delivered
+all-closed k sizes clean before bits at g h so =
+    sym (so ∙ rw (drop-of-length-le sizes {i = g} h) (take-append-drop (at * k) bits))

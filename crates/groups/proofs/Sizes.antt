@@ -17,7 +17,6 @@ use Rattle.groups.specs.Groups.{someZero, total, sizeRefusals}
 abbrev pub wrong : List ℕ → ℕ → Bool
 wrong ns left = someZero ns || not (eqb (total ns) left)
 
-
 wrong-zero : (ns : List ℕ) (left n : ℕ) → n ≡ 0 → wrong (n ∷ ns) left ≡ true
 unfolding someZero total
 wrong-zero ns left n e = simp (eq-eqb n 0 e)

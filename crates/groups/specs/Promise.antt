@@ -11,7 +11,7 @@ use Rattle.refusal.specs.Outcome.{Outcome, accepted}
 use Rattle.softmath.specs.declared.DecodeRule.{DecodeRule}
 use Rattle.decoders.specs.Decodes.{ruleOf}
 use Rattle.batch.specs.Codes.{sizeK}
-use Rattle.batch.specs.Calls.{Lent, Batch, frames}
+use Rattle.batch.specs.Calls.{Lent, Batch, frames, written}
 use Rattle.groups.specs.Groups.{Answered, total, all, cleanList}
 
 -- a call that was made with groups
@@ -38,7 +38,7 @@ valuesOf c g i = getD (frames (c .handed)) (startOf c g + i) []
 
 -- whether it is delivered, and its bit bytes as the call left them
 unfoldable pub isDelivered : GroupCall → ℕ → Bool
-isDelivered c g = all (take (sizeOf c g) (drop (startOf c g) (cleanList (c .handed))))
+isDelivered c g = all (take (sizeOf c g) (drop (startOf c g) (cleanList (c .handed) (written (c .handed)))))
 
 abbrev pub bitsOf : GroupCall → ℕ → List ℕ
 bitsOf c g = let k = sizeK (c .handed .code) in take (sizeOf c g * k) (drop (startOf c g * k) (c .left .bits))

@@ -4,13 +4,14 @@ use batch::Room;
 use refusal::Refusal;
 use refusal::Status;
 ghost use mathlib.Core.Path.{_≡_};
+ghost use mathlib.Core.List.{_++_};
 ghost use Prim.Native.Nat.{_*_, _≤_};
 ghost use lib.ListN.{length, replicate};
 ghost use Rattle.refusal.specs.Outcome.{judged};
 ghost use Rattle.refusal.specs.Answers.{statusOf};
 ghost use Rattle.batch.specs.Codes.{sizeN, sizeK};
 ghost use Rattle.batch.specs.Pairs.{pairsOf, framesOf, AllWithin};
-ghost use Rattle.batch.specs.Calls.{lent, batch};
+ghost use Rattle.batch.specs.Calls.{lent, batch, refusalsOf};
 ghost use Rattle.clean_frames.specs.CleanFrames.{cleanOf};
 ghost use Rattle.groups.specs.Groups.{sizeRefusals, total, cleanFrom, all, groupBits, delivered, Answered};
 
@@ -40,6 +41,24 @@ fn sizes_fault(frames: usize, sizes: &[u32]) -> Status
         return Status::Refused(Refusal::GroupSizes);
     }
     Status::Done
+}
+
+// Whether the call is turned down, and by which number: as the batch, and then for its sizes.
+fn groups_fault(
+    code: u32,
+    rule: u32,
+    values: usize,
+    pairs: &[u32],
+    sizes: &[u32],
+    room: Room,
+) -> Status
+    ensures { λ r. ⌜ statusOf r ≡ judged
+        (refusalsOf code rule values (pairsOf (now (pairs .entry))) room ++ sizeRefusals (length (pairsOf (now (pairs .entry)))) (now (sizes .entry))) tt ⌝ }
+{
+    if let Status::Refused(r) = batch::batch_fault(code, rule, values, pairs, room) {
+        return Status::Refused(r);
+    }
+    sizes_fault(pairs.len() / 2, sizes)
 }
 
 // ---- the groups
@@ -147,7 +166,7 @@ fn deliver_groups(
 
 // ---- the call
 
-// The batch over flat slices with group sizes: every test comes before the first write.
+// The batch over flat slices with group sizes. Every test comes before the first write, those of the sizes too, so that the batch is not turned down after them.
 pub fn decode_groups(
     code: u32,
     rule: u32,
@@ -169,26 +188,17 @@ pub fn decode_groups(
         (statusOf r)
         (lent (now (bits .exit)) (now (counts .exit)) (now (rounds .exit)) (now (firsts .exit)) (now (work .exit))) ⌝ }
 {
-    if let Status::Refused(r) = sizes_fault(pairs.len() / 2, sizes) {
-        let room = Room {
-            bits: bits.len(),
-            counts: counts.len(),
-            rounds: rounds.len(),
-            firsts: firsts.len(),
-            work: work.len(),
-        };
-        if let Status::Refused(earlier) = batch::batch_fault(
-            code,
-            rule,
-            values.len(),
-            pairs,
-            room,
-        ) {
-            return Status::Refused(earlier);
-        }
+    let room = Room {
+        bits: bits.len(),
+        counts: counts.len(),
+        rounds: rounds.len(),
+        firsts: firsts.len(),
+        work: work.len(),
+    };
+    if let Status::Refused(r) = groups_fault(code, rule, values.len(), pairs, sizes, room) {
         return Status::Refused(r);
     }
-    if let Status::Refused(r) = batch::decode_batch(
+    let told = batch::decode_batch(
         code,
         rule,
         limit,
@@ -200,9 +210,7 @@ pub fn decode_groups(
         rounds,
         firsts,
         work,
-    ) {
-        return Status::Refused(r);
-    }
+    );
     deliver_groups(code, values, pairs, sizes, counts, bits);
-    Status::Done
+    told
 }
