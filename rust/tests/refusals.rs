@@ -294,7 +294,7 @@ fn eighths() {
 
 #[test]
 fn every_refusal_has_its_number_and_a_sentence() {
-    for number in (1..=13).chain(16..=18) {
+    for number in (1..=13).chain(16..=18).chain([20]) {
         let refusal = Refusal::from_number(number).unwrap();
         assert_eq!(refusal.number(), number);
         assert!(refusal.to_string().len() > 15);

@@ -1,15 +1,15 @@
 -- The call as a whole: the batch's tests and then those of the sizes; what a refused and an accepted call leave. Assumes nothing.
-use mathlib.Core.Path.{_≡_, refl, sym, ap, _∙_}
+use mathlib.Core.Path.{_≡_, sym, ap, _∙_}
 use mathlib.Core.List.{List, _++_}
-use Prim.Native.Nat.{ℕ, _*_}
-use lib.Ieee.{Float}
+use Prim.Native.Nat.{ℕ}
 use lib.ListN.{length}
 use Rattle.refusal.specs.Outcome.{Outcome, refused, Condition}
 use Rattle.refusal.proofs.Judged.{verdict, nothing, judged-past, judged-front, kept-refused, kept-accepted, accepted-front, accepted-rest}
 use Rattle.batch.specs.Codes.{sizeK}
 use Rattle.batch.specs.Calls.{Lent, lent, Batch, refusals, written}
 use Rattle.batch.specs.Calls as batch
-use Rattle.groups.specs.Groups.{sizeRefusals, groupRefusals, cleanList, delivered, overwritten, Answered}
+use Rattle.grouping.specs.Grouping.{sizeRefusals, delivered}
+use Rattle.groups.specs.Groups.{groupRefusals, cleanList, overwritten, Answered}
 
 -- the two runs of tests, one after the other
 module _ (head : List Condition) (frames : ℕ) (sizes : List ℕ) where

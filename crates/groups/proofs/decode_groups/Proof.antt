@@ -9,7 +9,7 @@ use Rattle.batch.specs.Pairs.{pairsOf}
 use Rattle.batch.specs.Calls.{Lent, lent, Batch, batch, roomOf}
 use Rattle.batch.proofs.Whole.{all-good, all-inside}
 use Rattle.groups.specs.Groups.{groupRefusals}
-use Rattle.groups.proofs.Sizes.{total-fits}
+use Rattle.grouping.proofs.Sizes.{total-fits}
 use Rattle.groups.proofs.Whole.{turned-down, batch-passed, sizes-passed, carried-out}
 use borrow.Author.Needs.{needs}
 use Rattle.groups.proofs.decode_groups.Statement.{statement}

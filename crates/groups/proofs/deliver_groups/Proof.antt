@@ -10,7 +10,8 @@ use Rattle.batch.specs.Codes.{sizeK}
 use Rattle.batch.specs.Pairs.{pairsOf, framesOf}
 use Rattle.batch.proofs.Pairs.{pairs-length}
 use Rattle.clean_frames.specs.CleanFrames.{cleanOf}
-use Rattle.groups.specs.Groups.{cleanFrom, delivered}
+use Rattle.grouping.specs.Grouping.{delivered}
+use Rattle.groups.specs.Groups.{cleanFrom}
 use borrow.Author.Needs.{needs}
 use Rattle.groups.proofs.deliver_groups.Statement.{statement}
 use Rattle.groups.proofs.deliver_groups.Tie as tie

@@ -9,7 +9,7 @@ use Rattle.refusal.proofs.Judged.{verdict}
 use Rattle.batch.specs.Pairs.{pairsOf}
 use Rattle.batch.specs.Calls.{refusalsOf}
 use Rattle.batch.proofs.Pairs.{pairs-length}
-use Rattle.groups.specs.Groups.{sizeRefusals}
+use Rattle.grouping.specs.Grouping.{sizeRefusals}
 use Rattle.groups.proofs.Whole.{head-refused, head-passed}
 use borrow.Author.Needs.{needs}
 use Rattle.groups.proofs.groups_fault.Statement.{statement}

@@ -1,4 +1,4 @@
--- `groups::close_groups` meets its contract. The invariant: all groups are delivered where those that are left are, of the bytes that are left.
+-- `grouping::close_groups` meets its contract. The invariant: all groups are delivered where those that are left are, of the bytes that are left.
 -- Assumes nothing.
 use mathlib.Core.Path.{_≡_, refl, sym, ap, _∙_}
 use mathlib.Core.Bool.{Bool}
@@ -7,15 +7,11 @@ use Prim.Native.Nat.{ℕ, _+_, _-_, _*_, _<_, _≤_}
 use native.Mathlib.Nat.{zero-mul}
 use native.Mathlib.Omega.{arith}
 use lib.ListN.{length, getD, take, drop}
-use Rattle.groups.specs.Groups.{total, groupBits, delivered}
-use Rattle.groups.proofs.Groups.{frames-fit, rest-fits, bytes-fit, next-length, next-group, all-closed}
+use Rattle.grouping.specs.Grouping.{total, groupBits, delivered}
+use Rattle.grouping.proofs.Groups.{frames-fit, rest-fits, bytes-fit, next-length, next-group, all-closed}
 use borrow.Author.Needs.{needs}
-use Rattle.groups.proofs.close_groups.Statement.{statement}
-use Rattle.groups.proofs.close_groups.Tie as tie
-use Rattle.groups.proofs.close_groups.Reads as reads
-use Rattle.groups.proofs.close_groups.Lts as lts
-use Rattle.groups.proofs.all_clean.Reads as all-clean-reads
-use Rattle.groups.proofs.close_group.Reads as close-group-reads
+use Rattle.grouping.proofs.close_groups.Statement.{statement}
+use Rattle.grouping.proofs.close_groups.Tie as tie
 
 abbrev Inv-loop : tie.InvT-loop
 Inv-loop k sizes clean bits₀ at₀ g₀ bits at g =
@@ -111,10 +107,10 @@ mul-to : tie.Need-mul-to Inv-loop μ-loop
 mul-to c = omega (arith, turn (inside c) .last)
 
 sub-close-group : tie.Need-sub-close-group Inv-loop μ-loop
-sub-close-group c = turn (inside c) .first
+sub-close-group c = omega (arith, turn (inside c) .first)
 
 part-close-group-start : tie.Need-part-close-group-start Inv-loop μ-loop
-part-close-group-start c = turn (inside c) .first
+part-close-group-start c = omega (arith, turn (inside c) .first)
 
 part-close-group-end : tie.Need-part-close-group-end Inv-loop μ-loop
 part-close-group-end c = turn (inside c) .last
