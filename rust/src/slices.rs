@@ -281,9 +281,6 @@ pub struct Outputs<'a> {
     pub firsts: &'a mut [u16],
 }
 
-/// A batch call: [`decode_batch`] or [`decode_stored_batch`].
-pub type BatchCall = fn(u32, u32, u16, f32, &[f32], &[[u32; 2]], Outputs<'_>, &mut [f32]) -> Result<(), Refusal>;
-
 /// One of the batch calls of the library, on Rust's slices, with a further list where it takes one.
 macro_rules! batch_call {
     ($(#[$text:meta])* $name:ident $foreign:ident $($list:ident)?) => {

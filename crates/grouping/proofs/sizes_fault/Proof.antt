@@ -67,7 +67,7 @@ returns-4 : tie.Need-returns-4 Inv-loop μ-loop
 returns-4 c =
     let left = c .before in
     let at = left .before in
-    sym (refused-left _ _ _ _ (at .loop .inv .2) (some at) (left .loop-test .left) (c .if4 .taken))
+    sym (refused-left _ _ _ _ (at .loop .inv .2) (some at) (left .loop-test .left) (omega (arith, c .if4 .taken)))
 
 returns-5 : tie.Need-returns-5 Inv-loop μ-loop
 returns-5 c =
