@@ -1,7 +1,7 @@
 /* desklink.h: the C interface of libdesklink.a (`rt staticlib desklink` writes it to target/staticlib).
  *
- * Answers. Every call answers one int32_t: a value or a count from 0 up, or a refusal as minus its number, -1 to -13 or
- * -16 to -18. A refused call has written nothing. A call that only writes answers 0.
+ * Answers. Every call answers one int32_t: a value or a count from 0 up, or a refusal as minus its number, -1 to -13,
+ * -16 to -18 or -20. A refused call has written nothing. A call that only writes answers 0.
  *
  * Counts. A word's count is how many of the code's parity checks it leaves unsatisfied; 0 says that it is a codeword.
  * Beside a count, `first` gets the number of the lowest check that it includes, from 0, or DESKLINK_NO_CHECK where it is
@@ -50,7 +50,8 @@ enum desklink_refusal {
     DESKLINK_MALFORMED = -13,       /* a program's input is malformed; no call here answers it */
     DESKLINK_ERASURE_BYTE = -16,    /* a byte of a word with erasures is above 2 */
     DESKLINK_BYTE_OUT_OF_RANGE = -17, /* a soft byte is -128 */
-    DESKLINK_NOT_EIGHTHS = -18      /* a value is no soft byte's */
+    DESKLINK_NOT_EIGHTHS = -18,     /* a value is no soft byte's */
+    DESKLINK_GROUP_SIZES = -20      /* a group's size is 0, or the sizes do not add up to the number of pairs */
 };
 
 /* The CRC-14 of the first num_bits bits of message, most significant bit first: 0 to 0x3FFF. */
@@ -102,6 +103,17 @@ int32_t desklink_decode_stored_batch(uint32_t code, uint32_t rule, uint16_t limi
                                      size_t bits_len, uint16_t *counts, size_t counts_len, uint16_t *rounds,
                                      size_t rounds_len, uint16_t *firsts, size_t firsts_len, float *work,
                                      size_t work_len);
+
+/* The batch with groups, for frames that are of use only together. sizes: how many frames each group has, in turn, each
+ * at least 1, together as many as there are pairs; the first group takes the first pairs, and so on. A group is delivered
+ * if all its frames are clean: a frame is clean when its count is 0, none of its values is NaN and, for code 3, its bits
+ * carry the checksum of their first 77. All bit bytes of any other group are 255, which no bit's byte is; counts, rounds and
+ * firsts are those of every frame all the same. With sizes_len 0 there are no groups, and this is desklink_decode_batch. */
+int32_t desklink_decode_groups(uint32_t code, uint32_t rule, uint16_t limit, float scale, const float *values,
+                               size_t values_len, const uint32_t *pairs, size_t pairs_len, const uint32_t *sizes,
+                               size_t sizes_len, uint8_t *bits, size_t bits_len, uint16_t *counts, size_t counts_len,
+                               uint16_t *rounds, size_t rounds_len, uint16_t *firsts, size_t firsts_len, float *work,
+                               size_t work_len);
 
 /* word: N bytes, each 0, 1, or 2 for an unknown bit; the unknown bits that the checks of the code (0 to 3) decide are
  * set. places: N numbers, of which the first ones are written: the positions that were set, in the order in which they

@@ -15,11 +15,13 @@
 use std::cell::RefCell;
 
 mod batch;
+mod moves;
 mod refusal;
 pub mod slices;
 mod staircase;
 
 pub use batch::{Batch, Code};
+pub use moves::Move;
 pub use refusal::Refusal;
 pub use staircase::{DecodeRule, Ldpc, LdpcCode};
 

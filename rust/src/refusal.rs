@@ -21,10 +21,11 @@ pub enum Refusal {
     ErasureByte = 16,
     ByteOutOfRange = 17,
     NotEighths = 18,
+    GroupSizes = 20,
 }
 
 impl Refusal {
-    const ALL: [Refusal; 16] = [
+    const ALL: [Refusal; 17] = [
         Refusal::UnknownCode,
         Refusal::UnknownRule,
         Refusal::RuleNotOfCode,
@@ -41,9 +42,10 @@ impl Refusal {
         Refusal::ErasureByte,
         Refusal::ByteOutOfRange,
         Refusal::NotEighths,
+        Refusal::GroupSizes,
     ];
 
-    /// The number, 1 to 13 or 16 to 18.
+    /// The number, 1 to 13, 16 to 18 or 20.
     ///
     /// ```
     /// assert_eq!(desklink::Refusal::MessageSlack.number(), 6);
@@ -77,6 +79,7 @@ impl fmt::Display for Refusal {
             Refusal::ErasureByte => "a byte of the word with erasures is above 2: write 0 or 1 for a known bit, and 2 for an unknown one",
             Refusal::ByteOutOfRange => "a soft byte is -128: soft bytes go from -127 to 127",
             Refusal::NotEighths => "a value is no soft byte's: eight times it must be a whole number from -127 to 127, and -0.0 is none",
+            Refusal::GroupSizes => "the group sizes are wrong: each is at least 1, and together they are as many as the batch has frames",
         })
     }
 }

@@ -87,6 +87,28 @@ mod ffi {
             work: *mut f32,
             work_len: usize,
         ) -> i32;
+        pub fn desklink_decode_groups(
+            code: u32,
+            rule: u32,
+            limit: u16,
+            scale: f32,
+            values: *const f32,
+            values_len: usize,
+            pairs: *const u32,
+            pairs_len: usize,
+            sizes: *const u32,
+            sizes_len: usize,
+            bits: *mut u8,
+            bits_len: usize,
+            counts: *mut u16,
+            counts_len: usize,
+            rounds: *mut u16,
+            rounds_len: usize,
+            firsts: *mut u16,
+            firsts_len: usize,
+            work: *mut f32,
+            work_len: usize,
+        ) -> i32;
         pub fn desklink_fill_erasures(code: u32, word: *mut u8, word_len: usize, places: *mut u16, places_len: usize) -> i32;
         pub fn desklink_values_of_bytes(bytes: *const i8, bytes_len: usize, positive_is_one: u32, values: *mut f32, values_len: usize) -> i32;
         pub fn desklink_bytes_of_values(values: *const f32, values_len: usize, positive_is_one: u32, bytes: *mut i8, bytes_len: usize) -> i32;
@@ -259,12 +281,9 @@ pub struct Outputs<'a> {
     pub firsts: &'a mut [u16],
 }
 
-/// A batch call: [`decode_batch`] or [`decode_stored_batch`].
-pub type BatchCall = fn(u32, u32, u16, f32, &[f32], &[[u32; 2]], Outputs<'_>, &mut [f32]) -> Result<(), Refusal>;
-
-/// One of the two batch calls of the library, on Rust's slices.
+/// One of the batch calls of the library, on Rust's slices, with a further list where it takes one.
 macro_rules! batch_call {
-    ($(#[$text:meta])* $name:ident $foreign:ident) => {
+    ($(#[$text:meta])* $name:ident $foreign:ident $($list:ident)?) => {
         $(#[$text])*
         #[allow(clippy::too_many_arguments)]
         pub fn $name(
@@ -274,6 +293,7 @@ macro_rules! batch_call {
             scale: f32,
             values: &[f32],
             pairs: &[[u32; 2]],
+            $($list: &[u32],)?
             out: Outputs<'_>,
             work: &mut [f32],
         ) -> Result<(), Refusal> {
@@ -288,6 +308,7 @@ macro_rules! batch_call {
                     values.len(),
                     pairs.as_ptr(),
                     pairs.len(),
+                    $($list.as_ptr(), $list.len(),)?
                     out.bits.as_mut_ptr(),
                     out.bits.len(),
                     out.counts.as_mut_ptr(),
@@ -313,6 +334,12 @@ batch_call! {
 batch_call! {
     /// The same of a batch that was stored when rule 3 stood for rule 0: 3 is taken as 0, and every other number as it is.
     decode_stored_batch desklink_decode_stored_batch
+}
+
+batch_call! {
+    /// The same with groups: `sizes` has the number of frames of each group in turn, in place order. A group whose frames are all clean has its bits;
+    /// all bit bytes of any other are 255. With no sizes this is [`decode_batch`].
+    decode_groups desklink_decode_groups sizes
 }
 
 /// Sets the unknown bits (2) of a recorded word of N bytes that the checks of code 0 to 3 decide, one after another, and lists their positions at

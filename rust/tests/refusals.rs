@@ -238,7 +238,33 @@ fn batch() {
             assert_eq!(numbers, [0, 0, slices::NO_CHECK].map(|n| vec![n; pairs.len()]));
             assert!(work[..3070].iter().all(|v| v.to_bits() == 0) && same_bits(&work[3070..], &held[3070..]));
         }
+        // with groups: the same refusals, and then that of the sizes
+        let sizes = some_sizes(random, pairs.len());
+        let wrong = !sizes.is_empty() && (sizes.contains(&0) || sizes.iter().map(|&n| n as usize).sum::<usize>() != pairs.len());
+        let expected = expected.or(wrong.then_some(Refusal::GroupSizes));
+        let (mut bits, mut numbers, mut work) = (bits_before.clone(), numbers_before.clone(), held.clone());
+        let [counts, rounds, firsts] = &mut numbers;
+        let out = slices::Outputs { bits: &mut bits, counts, rounds, firsts };
+        if expect(slices::decode_groups(code, rule, 2, 0.5, &values, &pairs, &sizes, out, &mut work), expected) {
+            assert!(bits == bits_before && numbers == numbers_before && same_bits(&work, &held));
+        } else {
+            assert!(bits.iter().all(|&b| b == 0));
+        }
     }
+}
+
+/// Group sizes that take so many frames, of which one may then be spoilt.
+fn some_sizes(random: &mut Random, frames: usize) -> Vec<u32> {
+    let mut sizes = Vec::new();
+    let mut left = frames;
+    while left > 0 {
+        sizes.push(1 + random.below(left) as u32);
+        left -= sizes[sizes.len() - 1] as usize;
+    }
+    if let Some(last) = sizes.last_mut() {
+        *last = last.wrapping_sub(random.pick(&[0, 0, 0, 1, u32::MAX, *last]));
+    }
+    sizes
 }
 
 #[test]
@@ -294,7 +320,7 @@ fn eighths() {
 
 #[test]
 fn every_refusal_has_its_number_and_a_sentence() {
-    for number in (1..=13).chain(16..=18) {
+    for number in (1..=13).chain(16..=18).chain([20]) {
         let refusal = Refusal::from_number(number).unwrap();
         assert_eq!(refusal.number(), number);
         assert!(refusal.to_string().len() > 15);

@@ -32,6 +32,7 @@ fn decoders() {
     });
 }
 
+/// With groups: the batch lies beneath that call.
 #[test]
 fn batch() {
     for code in 0..4 {
@@ -43,7 +44,7 @@ fn batch() {
         let [mut counts, mut rounds, mut firsts] = [0; 3].map(|n| vec![n; 24]);
         on_small_stack(move || {
             let out = slices::Outputs { bits: &mut bits, counts: &mut counts, rounds: &mut rounds, firsts: &mut firsts };
-            slices::decode_batch(code, 0, 5, 1.0, &values, &pairs, out, &mut work).unwrap();
+            slices::decode_groups(code, 0, 5, 1.0, &values, &pairs, &[20, 4], out, &mut work).unwrap();
         });
     }
 }

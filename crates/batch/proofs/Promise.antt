@@ -43,6 +43,12 @@ data AllProper (n : ℕ) : List Word → Type 0 where
   none : AllProper n []
   more : {w : Word} {ws : List Word} → Proper n w → AllProper n ws → AllProper n (w ∷ ws)
 
+taken-below : (n k : ℕ) (w : Word) → Below n w → Below n (take k w)
+unfolding Below
+taken-below n k w b i q =
+    let low : i < k = omega (arith, length-take k w) in
+    rw (getD-take k w i 0 low) (b i (omega (arith, length-take k w)))
+
 module _ (d : Decode) where
   decided-size : (ans : List Float) (p : ℕ) (l : List Float) → length (decidedFrom d ans p l) ≡ length l
   unfolding decidedFrom
@@ -163,17 +169,12 @@ module _ (c : Code) (w : Word) (p : Proper (blockLength c) w) where
   unfolding checks
   zero-encoding z = zero-count-encoded (c .k) (c .m) (columns c) (omega (arith, columns-length c)) w (p .long) (p .bits) z
 
-  front-bits : Below 2 (take (c .k) w)
-  unfolding Below
-  front-bits i q =
-      let low : i < c .k = omega (arith, length-take (c .k) w) in
-      rw (getD-take (c .k) w i 0 low) (p .bits i (omega (arith, p .long)))
-
   encoding-zero : w ≡ encoded (c .m) (columns c) (take (c .k) w) → count (checks c) w ≡ 0
   unfolding checks
   encoding-zero e =
       ap (count (checks c)) e
-      ∙ count-encoded (c .k) (c .m) (columns c) (omega (arith, columns-length c)) (take (c .k) w) (length-take-le (c .k) w (omega (arith, p .long))) front-bits
+      ∙ count-encoded (c .k) (c .m) (columns c) (omega (arith, columns-length c)) (take (c .k) w) (length-take-le (c .k) w (omega (arith, p .long)))
+      (taken-below 2 (c .k) w (p .bits))
 
 -- and so has a word of each of the four codes
 module _ (r : DecodeRule) (llr : List Float) (w : Word) where
@@ -215,6 +216,15 @@ module _ (c : Call) (ok : Accepted c) (j : ℕ) (h : j < held c) where
       let b = c .handed in
       let p = chosen-proper d (b .limit) in
       record { long = p .long ∙ llr-is (b .code) (reading c) (valuesAt c j) ∙ frame-size c ok j h; bits = p .bits }
+
+  -- what is left of its bits is K bits
+  pub bits-proper : Proper (sizeK (c .handed .code)) (bitsAt c j)
+  bits-proper =
+      let k = sizeK (c .handed .code) in
+      record {
+        long = ap length front ∙ length-take-le k w (omega (arith, proper .long, size-small (c .handed .code) .front));
+        bits = subst (Below 2) (sym front) (taken-below 2 k w (proper .bits));
+      }
 
   by-chosen-word : ByChosenWord c j
   by-chosen-word =

@@ -119,6 +119,7 @@ abbrev pub frameFirst : Batch → List Float → ℕ
 frameFirst b llr = placeOf (chosenFirst (frameDecode b llr) (b .limit))
 
 -- "Frame j's K bits go to bytes j times K onward .., its count, a u16, to place j." The work area: "its first 3,070 are +0.0 and the rest are unchanged".
+-- Of a call with groups these are the numbers, and the bits before the overwriting (change request N13, crate `groups`).
 unfoldable pub written : Batch → Lent
 written b = record {
   bits = joined (map (frameBits b) (frames b));

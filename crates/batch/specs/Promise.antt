@@ -1,4 +1,6 @@
 -- Demand 3, the promise between two limits: what is said of a frame that two accepted batches hold, of what the calls leave in the lent memory.
+-- A call with groups overwrites the bits of some frames afterwards (change request N13): of such a call this is said of its numbers and "of the bits before that
+-- overwriting" (`Before`, specs/Promise of `groups`).
 use mathlib.Core.Path.{_≡_}
 use mathlib.Core.List.{List, []}
 use Prim.Native.Nat.{ℕ, _*_, _<_, _≤_, min}

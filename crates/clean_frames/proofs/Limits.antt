@@ -13,7 +13,7 @@ use Rattle.ldpc.proofs.Tests.{and-left}
 use Rattle.belief.specs.Rounds.{chosenCount, chosenBits}
 use Rattle.belief.proofs.Words.{count-falls, same-chosen}
 use Rattle.batch.specs.Codes.{sizeK, decodeOf}
-use Rattle.batch.specs.Promise.{Call, valuesAt, countAt, bitsAt}
+use Rattle.batch.specs.Promise.{Call, valuesAt, countAt, bitsAt, SameFrame}
 use Rattle.batch.proofs.Promise.{promise}
 use Rattle.clean.specs.Clean.{frameClean}
 use Rattle.clean_frames.specs.Limits.{cleanUnder, cleanAt, StaysClean, CleanInBoth}
@@ -44,3 +44,11 @@ clean-in-both a b i j s h =
     ap (λ (code : ℕ). frameClean code (valuesAt b j) (countAt b j) (bitsAt b j)) (sym (s .code))
     ∙ ap (λ (values : List Float). frameClean (a .handed .code) values (countAt b j) (bitsAt b j)) (sym (s .frame))
     ∙ clean-still (a .handed .code) (valuesAt a i) (countAt a i) (countAt b j) (bitsAt a i) (bitsAt b j) (p .noGreater) (p .equalBits) h
+
+-- and its bits are the same
+pub clean-bits : (a b : Call) (i j : ℕ) → SameFrame a b i j → cleanAt a i ≡ true → bitsAt a i ≡ bitsAt b j
+unfolding cleanAt
+clean-bits a b i j s h =
+    let p = promise a b i j s in
+    let zero = clean-zero (a .handed .code) (valuesAt a i) (countAt a i) (bitsAt a i) h in
+    p .equalBits (omega (arith, zero, p .noGreater))

@@ -10,6 +10,7 @@ use Rattle.belief.specs.Chosen.{told}
 use Rattle.belief.specs.Graph.{cleared}
 use Rattle.decoders.specs.Calls.{Single}
 use Rattle.batch.specs.Calls as batch
+use Rattle.groups.specs.Groups.{groupRefusals, overwritten}
 use Rattle.desklink.specs.Coded.{codedUnit, Lent, Decodes}
 
 -- a single decode
@@ -22,3 +23,8 @@ pub record DecodeCall (s : Single) (n : ℤ) (rounds first : Lent) (bits : List 
 pub record BatchCall (b : batch.Batch) (n : ℤ) (left : batch.Lent) : Type 0 where
   pub says : n ≡ codedUnit (judged (batch.refusals b) tt)
   pub leaves : left ≡ kept (batch.refusals b) (b .memory) (batch.written b)
+
+-- a batch with a list of group sizes
+pub record GroupsCall (b : batch.Batch) (sizes : List ℕ) (n : ℤ) (left : batch.Lent) : Type 0 where
+  pub says : n ≡ codedUnit (judged (groupRefusals b sizes) tt)
+  pub leaves : left ≡ kept (groupRefusals b sizes) (b .memory) (overwritten b sizes (batch.written b))

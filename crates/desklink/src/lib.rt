@@ -28,7 +28,7 @@ ghost use Rattle.eighths.specs.Calls.{bytesRefusals, valuesRefusals, valuesOf, 
 ghost use Rattle.erasure.specs.Filling.{filledWord, filledPlaces, listed};
 ghost use Rattle.erasure.specs.Calls.{checksBy, erasureRefusals};
 ghost use Rattle.desklink.specs.Coded.{coded, codedUnit, lent, Counts, Decodes};
-ghost use Rattle.desklink.specs.Calls.{DecodeCall, BatchCall};
+ghost use Rattle.desklink.specs.Calls.{DecodeCall, BatchCall, GroupsCall};
 
 // ---- answers as numbers
 
@@ -281,6 +281,47 @@ pub extern "C" fn desklink_decode_stored_batch(
         scale,
         values,
         pairs,
+        bits,
+        counts,
+        rounds,
+        firsts,
+        work,
+    ))
+}
+
+// ---- groups
+
+// The batch with a list of group sizes: the frames of a group are delivered together, or all its bit bytes are 255.
+#[no_mangle]
+pub extern "C" fn desklink_decode_groups(
+    code: u32,
+    rule: u32,
+    limit: u16,
+    scale: f32,
+    values: &[f32],
+    pairs: &[u32],
+    sizes: &[u32],
+    bits: &mut [u8],
+    counts: &mut [u16],
+    rounds: &mut [u16],
+    firsts: &mut [u16],
+    work: &mut [f32],
+) -> i32
+    ensures { λ n. ⌜ GroupsCall
+        (batch·calls.batch code rule limit scale (now (values .entry)) (pairsOf (now (pairs .entry)))
+        (batch·calls.lent (now (bits .entry)) (now (counts .entry)) (now (rounds .entry)) (now (firsts .entry)) (now (work .entry))))
+        (now (sizes .entry))
+        n
+        (batch·calls.lent (now (bits .exit)) (now (counts .exit)) (now (rounds .exit)) (now (firsts .exit)) (now (work .exit))) ⌝ }
+{
+    status_code(groups::decode_groups(
+        code,
+        rule,
+        limit,
+        scale,
+        values,
+        pairs,
+        sizes,
         bits,
         counts,
         rounds,

@@ -1,3 +1,4 @@
-pub mod Sizes
 pub mod Clean
-pub mod Groups
+pub mod Whole
+pub mod Parts
+pub mod Promise

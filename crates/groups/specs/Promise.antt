@@ -1,20 +1,31 @@
--- What is promised of a group that two accepted calls hold (change request N13): "A group delivered under a limit is delivered with the same bits under
--- a larger one." Demand 2 and the frame promise (specs/Promise of `batch`) speak of counts, rounds, first checks and of the bits before the overwriting:
--- of delivered bits no more is promised than this, "since equal counts of one frame do not make its group delivered in both".
+-- What is promised of a call with groups (change request N13): that it is the batch where the list is empty, that its numbers are the batch's, that a group is
+-- delivered whole or not at all, and what a larger limit may change.
 use mathlib.Core.Path.{_≡_}
-use mathlib.Core.Bool.{Bool, true}
+use mathlib.Core.Bool.{Bool, true, false}
 use mathlib.Core.List.{List, []}
 use Prim.Native.Nat.{ℕ, _+_, _*_, _<_, _≤_}
 use lib.Ieee.{Float}
-use lib.ListN.{length, getD, take, drop}
+use lib.ListN.{length, getD, take, drop, replicate}
 use Rattle.refusal.specs.Outcome.{Outcome, accepted}
+use Rattle.tanner.specs.Flat.{Below}
 use Rattle.softmath.specs.declared.DecodeRule.{DecodeRule}
 use Rattle.decoders.specs.Decodes.{ruleOf}
 use Rattle.batch.specs.Codes.{sizeK}
-use Rattle.batch.specs.Calls.{Lent, Batch, frames}
-use Rattle.groups.specs.Groups.{Answered, total, all, cleanList}
+use Rattle.batch.specs.Calls.{Lent, Batch, frames, written}
+use Rattle.batch.specs.Calls as batch
+use Rattle.grouping.specs.Grouping.{total, all}
+use Rattle.groups.specs.Groups.{Answered, cleanList}
 
--- a call that was made with groups
+-- ---- no list
+
+-- "An empty list is no list": a call with it answers and leaves what the batch does, and nothing else
+pub record NoList (b : Batch) (answer : Outcome Unit) (left : Lent) : Type 0 where
+  pub isBatch : Answered b [] answer left → batch.Answered b answer left
+  pub fromBatch : batch.Answered b answer left → Answered b [] answer left
+
+-- ---- a call, and its groups
+
+-- a call that was made: what was handed over, what it answered, what it left in the lent memory; by the contract of `decode_groups`
 pub record GroupCall : Type 0 where
   pub handed : Batch
   pub sizes : List ℕ
@@ -36,17 +47,49 @@ startOf c g = total (take g (c .sizes))
 abbrev pub valuesOf : GroupCall → ℕ → ℕ → List Float
 valuesOf c g i = getD (frames (c .handed)) (startOf c g + i) []
 
--- whether it is delivered, and its bit bytes as the call left them
+-- its bytes among the bit bytes of all frames
+abbrev pub bytesOf : GroupCall → ℕ → List ℕ → List ℕ
+bytesOf c g bits = let k = sizeK (c .handed .code) in take (sizeOf c g * k) (drop (startOf c g * k) bits)
+
+-- whether "all its frames are clean"; its bytes as the call left them, and before the overwriting
 unfoldable pub isDelivered : GroupCall → ℕ → Bool
-isDelivered c g = all (take (sizeOf c g) (drop (startOf c g) (cleanList (c .handed))))
+isDelivered c g = all (take (sizeOf c g) (drop (startOf c g) (cleanList (c .handed) (written (c .handed)))))
 
 abbrev pub bitsOf : GroupCall → ℕ → List ℕ
-bitsOf c g = let k = sizeK (c .handed .code) in take (sizeOf c g * k) (drop (startOf c g * k) (c .left .bits))
+bitsOf c g = bytesOf c g (c .left .bits)
 
+abbrev pub bitsBefore : GroupCall → ℕ → List ℕ
+bitsBefore c g = bytesOf c g (written (c .handed) .bits)
+
+-- ---- before the overwriting
+
+-- what an accepted call left, with the bits before the overwriting in place of those that it left
+abbrev pub before : GroupCall → Lent
+before c = record { bits = written (c .handed) .bits; counts = c .left .counts; rounds = c .left .rounds; firsts = c .left .firsts; work = c .left .work }
+
+-- "Demand 2 and the frame promise now speak of these numbers and of the bits before that overwriting": what a batch is promised holds of these, since they are what the
+-- batch leaves (`Answered`, and with it `SameFrame` and `Promise`, in the definitions of `batch`). Of the bits that such a call leaves, no more is promised than what
+-- follows here, "since equal counts of one frame do not make its group delivered in both".
+abbrev pub Before : GroupCall → Type 0
+Before c = Accepted c → batch.Answered (c .handed) (c .answer) (before c)
+
+-- ---- all or nothing
+
+-- A delivered group has the bits of all its frames, and a group that is not has none of them. A group has bytes, and a bit's byte is 0 or 1, so that from any of its
+-- bytes, 255 or not, a caller sees which of the two it is.
+pub record AllOrNothing (c : GroupCall) (g : ℕ) : Type 0 where
+  pub some : 0 < length (bitsOf c g)
+  pub whole : isDelivered c g ≡ true → bitsOf c g ≡ bitsBefore c g
+  pub areBits : isDelivered c g ≡ true → Below 2 (bitsOf c g)
+  pub withheld : isDelivered c g ≡ false → bitsOf c g ≡ replicate (sizeOf c g * sizeK (c .handed .code)) 255
+
+-- ---- between two limits
+
+-- the check step that its frames are decoded by
 abbrev pub reading : GroupCall → DecodeRule
 reading c = ruleOf (c .handed .code) (c .handed .rule) (c .handed .scale)
 
--- "two batches that hold the same whole group": its frames bit for bit, in order, at any places, of the same reading
+-- two accepted calls of one reading with limits a ≤ b, "that hold the same whole group": its frames bit for bit, in order, at any places
 pub record SameGroup (a b : GroupCall) (g h : ℕ) : Type 0 where
   pub acceptedA : Accepted a
   pub acceptedB : Accepted b
@@ -58,6 +101,7 @@ pub record SameGroup (a b : GroupCall) (g h : ℕ) : Type 0 where
   pub size : sizeOf a g ≡ sizeOf b h
   pub frame : (i : ℕ) → i < sizeOf a g → valuesOf a g i ≡ valuesOf b h i
 
+-- "A group delivered under a limit is delivered with the same bits under a larger one."
 pub record StaysDelivered (a b : GroupCall) (g h : ℕ) : Type 0 where
   pub delivered : isDelivered a g ≡ true → isDelivered b h ≡ true
   pub bits : isDelivered a g ≡ true → bitsOf a g ≡ bitsOf b h

@@ -3,10 +3,10 @@
 use mathlib.Core.Path.{_≡_, refl, sym, ap, _∙_}
 use mathlib.Core.Bool.{Bool, true, false, cond}
 use mathlib.Core.List.{List, [], _∷_, _++_, append-assoc}
-use Prim.Native.Nat.{ℕ, zero, suc, _+_, _-_, _%_, _≤_, _<_}
+use Prim.Native.Nat.{ℕ, zero, suc, _+_, _%_, _≤_, _<_}
 use native.Mathlib.Nat.{add-zero, add-suc}
 use native.Mathlib.Omega.{arith}
-use lib.ListN.{length, getD, take, drop, set, length-append, length-map, length-drop, take-append-drop, List·getD-append}
+use lib.ListN.{length, getD, take, drop, set, length-append, length-drop, take-append-drop, List·getD-append}
 use lib.Seq.{take-at, set-at, getD-at, getD-append-add, length-take-le}
 use Rattle.construction.specs.Columns.{holds}
 use Rattle.tanner.specs.Checks.{Word, parity, count, countMasked, lowBits}
@@ -37,7 +37,7 @@ unfolding checkRow
 row-parity k cols i w = omega (arith, parity-append (taps i 0 cols) (parityEntries k i) w, entries-parity k i w)
 
 -- ---- the message columns of a row are below K
-below-none : (n : ℕ) → Below n []
+pub below-none : (n : ℕ) → Below n []
 unfolding Below
 below-none n i h = absurd (omega arith)
 
@@ -63,7 +63,7 @@ rest-below : (n x : ℕ) (l : List ℕ) → Below n (x ∷ l) → Below n l
 unfolding Below
 rest-below n x l b i h = b (suc i) (omega arith)
 
-below-append : (n : ℕ) (xs ys : List ℕ) → Below n xs → Below n ys → Below n (xs ++ ys)
+pub below-append : (n : ℕ) (xs ys : List ℕ) → Below n xs → Below n ys → Below n (xs ++ ys)
 below-append n [] ys p q = q
 below-append n (x ∷ xs) ys p q = below-cons n x (xs ++ ys) (first-below n x xs p) (below-append n xs ys (rest-below n x xs p) q)
 

@@ -15,9 +15,6 @@ use Rattle.groups.proofs.Clean.{clean-length, clean-at}
 use borrow.Author.Needs.{needs}
 use Rattle.groups.proofs.clean_list.Statement.{statement}
 use Rattle.groups.proofs.clean_list.Tie as tie
-use Rattle.groups.proofs.clean_list.Reads as reads
-use Rattle.groups.proofs.clean_list.Lts as lts
-use Rattle.clean_frames.proofs.clean_at.Reads as clean-at-reads
 
 -- whether frame j is clean
 abbrev clean-of : (code : ℕ) → List Float → List ℕ → List ℕ → List ℕ → ℕ → Bool

@@ -1,17 +1,20 @@
 -- The groups' bytes: one group's, and what is left to be done after it. Assumes nothing.
 use mathlib.Core.Path.{_≡_, refl, sym, ap, ap₂, _∙_}
 use mathlib.Core.Bool.{Bool, true, false}
-use mathlib.Core.List.{List, [], _∷_, _++_, append-assoc}
-use Prim.Native.Nat.{ℕ, suc, _+_, _-_, _*_, _<_, _≤_}
-use native.Mathlib.Nat.{add-mul, mul-le-mul}
+use mathlib.Core.List.{List, [], _∷_, _++_, append-assoc, append-nil}
+use Prim.Native.Nat.{ℕ, zero, suc, _+_, _-_, _*_, _<_, _≤_}
+use native.Mathlib.Nat.{add-mul, zero-mul, mul-le-mul}
 use native.Mathlib.Numerals.{add-one}
 use native.Mathlib.Omega.{arith}
 use borrow.Rule.Slice.PartMut.{postOf, putMid, same-len-mid, drop-put}
-use lib.ListN.{length, getD, take, drop, replicate, length-replicate, length-drop}
-use lib.Seq.{drop-cons, drop-drop, length-take-le, take-append-add, take-append-seam}
-use Rattle.groups.specs.Groups.{total, all, groupBits, delivered}
+use lib.ListN.{length, getD, take, drop, replicate, length-replicate, length-drop, drop-of-length-le, take-append-drop}
+use lib.Seq.{drop-cons, drop-drop, length-take-le, take-append-add, take-append-seam, take-at, drop-append-add}
+use Rattle.grouping.specs.Grouping.{total, all, groupBits, delivered}
 
 -- ---- one group
+
+pub all-filled : (v : ℕ) (bits : List ℕ) (i : ℕ) → length bits ≡ i → replicate i v ++ drop i bits ≡ replicate (length bits) v
+all-filled v bits i e = rw (drop-of-length-le bits {i = i} (omega arith), append-nil, e) refl
 
 pub held : (t : Bool) (bits : List ℕ) → t ≡ true → bits ≡ groupBits t bits
 held true bits e = refl
@@ -95,3 +98,38 @@ module _ (k : ℕ) (sizes : List ℕ) (clean : List Bool) (at g : ℕ) (h : g < 
         ∙ sym (append-assoc (take from bits) group rest)
         ∙ ap₂ _++_ (ap (λ (l : List ℕ). take from bits ++ l) (sym one) ∙ sym passed)
         (rw (add-one, drop-drop n at clean, ends, left) refl)
+
+-- after the last group
+pub all-closed : (k : ℕ) (sizes : List ℕ) (clean : List Bool) (before bits : List ℕ) (at g : ℕ) → length sizes ≤ g
+    → delivered k sizes clean before ≡ take (at * k) bits ++ delivered k (drop g sizes) (drop at clean) (drop (at * k) bits) → bits ≡ delivered k sizes clean before
+unfolding delivered
+all-closed k sizes clean before bits at g h so =
+    sym (so ∙ rw (drop-of-length-le sizes {i = g} h) (take-append-drop (at * k) bits))
+
+-- ---- group g among all, whose bytes are within the lists
+
+group-whole : (k n : ℕ) (t : Bool) (bits : List ℕ) → n * k ≤ length bits → length (groupBits t (take (n * k) bits)) ≡ n * k
+group-whole k n t bits h = group-length t (take (n * k) bits) ∙ length-take-le (n * k) bits h
+
+pub group-at : (k : ℕ) (sizes : List ℕ) (clean : List Bool) (bits : List ℕ) (g : ℕ) → g < length sizes → total sizes * k ≤ length bits
+    → let n = getD sizes g 0 in
+    let s = total (take g sizes) in
+    take (n * k) (drop (s * k) (delivered k sizes clean bits)) ≡ groupBits (all (take n (drop s clean))) (take (n * k) (drop (s * k) bits))
+unfolding total delivered
+group-at k [] clean bits g h fits = absurd (omega arith)
+group-at k (n ∷ ns) clean bits zero h fits =
+    let own = groupBits (all (take n clean)) (take (n * k) bits) in
+    let rest = delivered k ns (drop n clean) (drop (n * k) bits) in
+    rw zero-mul (take-at own rest (n * k) (group-whole k n (all (take n clean)) bits (omega (arith, fits, add-mul n (total ns) k))))
+group-at k (n ∷ ns) clean bits (suc g) h fits =
+    let own = groupBits (all (take n clean)) (take (n * k) bits) in
+    let rest = delivered k ns (drop n clean) (drop (n * k) bits) in
+    let m = getD ns g 0 in
+    let t = total (take g ns) in
+    let span = add-mul n (total ns) k in
+    let size = group-whole k n (all (take n clean)) bits (omega (arith, fits, span)) in
+    let e : (n + t) * k ≡ length own + t * k = omega (arith, size, add-mul n t k) in
+    ap (λ (i : ℕ). take (m * k) (drop i (own ++ rest))) e
+    ∙ ap (take (m * k)) (drop-append-add own rest (t * k))
+    ∙ group-at k ns (drop n clean) (drop (n * k) bits) g (omega arith) (simp length-drop (omega (arith, fits, span)))
+    ∙ rw (drop-drop t n clean, drop-drop (t * k) (n * k) bits, ← add-mul n t k) refl

@@ -5,13 +5,13 @@ use mathlib.Core.List.{List, [], _∷_}
 use Prim.Native.Nat.{ℕ, zero, suc, _+_, _-_, _<_, _≤_}
 use native.Mathlib.Numerals.{add-one}
 use native.Mathlib.Omega.{arith}
-use borrow.Author.Tests.{eq-eqb, ne-eqb, eqb-true, eqb-false}
+use borrow.Author.Tests.{eq-eqb, ne-eqb, eqb-true, eqb-false, not-false}
 use lib.Dec.{eqb}
-use lib.ListN.{length, getD, drop, drop-of-length-le}
+use lib.ListN.{length, getD, take, drop, drop-of-length-le}
 use lib.Seq.{drop-cons}
 use Rattle.refusal.specs.Outcome.{refused}
 use Rattle.refusal.proofs.Judged.{verdict, nothing, passed-by}
-use Rattle.groups.specs.Groups.{someZero, total, sizeRefusals}
+use Rattle.grouping.specs.Grouping.{someZero, total, sizeRefusals}
 
 -- the sizes are none of groups that take so many frames
 abbrev pub wrong : List ℕ → ℕ → Bool
@@ -84,16 +84,45 @@ module _ (sizes : List ℕ) (frames i left : ℕ) (rest : wrong sizes frames ≡
   pub all-taken : 0 < length sizes → length sizes ≤ i → left ≤ 0 → verdict (sizeRefusals frames sizes) ≡ nothing
   all-taken s h e = judged-wrong sizes frames false s (ended h ∙ right-none left e)
 
--- sizes that are accepted take no more frames than there are
+-- ---- sizes that are accepted
+
+-- none is 0, and they add up to the frame count
+pub record Right (sizes : List ℕ) (frames : ℕ) : Type 0 where
+  pub no-zero : someZero sizes ≡ false
+  pub adds-up : total sizes ≡ frames
+
+or-left : (a b : Bool) → (a || b) ≡ false → a ≡ false
+or-left true b e = e
+or-left false b e = refl
+
+or-right : (a b : Bool) → (a || b) ≡ false → b ≡ false
+or-right true b e = absurd (let z : _≡_ {A = ℕ} 0 1 = cc in omega arith)
+or-right false b e = e
+
+pub sizes-right : (sizes : List ℕ) (frames : ℕ) → 0 < length sizes → verdict (sizeRefusals frames sizes) ≡ nothing → Right sizes frames
+sizes-right [] frames h e = absurd (omega arith)
+sizes-right (n ∷ ns) frames h e =
+    let sizes = n ∷ ns in
+    let zero = someZero sizes in
+    let same = eqb (total sizes) frames in
+    let f = passed-by (wrong sizes frames) 20 nothing e .not-held in
+    record { no-zero = or-left zero (not same) f; adds-up = eqb-true (total sizes) frames (not-false same (or-right zero (not same) f)) }
+
+-- no list takes no frame
 pub total-fits : (sizes : List ℕ) (frames : ℕ) → verdict (sizeRefusals frames sizes) ≡ nothing → total sizes ≤ frames
 unfolding total
 total-fits [] frames e = omega arith
-total-fits (n ∷ ns) frames e =
-    let p = passed-by (wrong (n ∷ ns) frames) 20 nothing e in
-    let s = right (someZero (n ∷ ns)) (eqb (total (n ∷ ns)) frames) (p .not-held) in
-    omega (arith, eqb-true (total (n ∷ ns)) frames s)
-  where
-    right : (a b : Bool) → (a || not b) ≡ false → b ≡ true
-    right true b e = cc
-    right false true e = refl
-    right false false e = cc
+total-fits (n ∷ ns) frames e = omega (arith, sizes-right (n ∷ ns) frames (omega arith) e .adds-up)
+
+-- of group g: its size is not 0, and its frames are among those that the sizes take
+pub size-some : (sizes : List ℕ) (g : ℕ) → someZero sizes ≡ false → g < length sizes → 0 < getD sizes g 0
+unfolding someZero
+size-some [] g z h = absurd (omega arith)
+size-some (n ∷ ns) zero z h = some-size n (eqb-false n 0 (or-left (eqb n 0) (someZero ns) z))
+size-some (n ∷ ns) (suc g) z h = size-some ns g (or-right (eqb n 0) (someZero ns) z) (omega arith)
+
+pub span-fits : (sizes : List ℕ) (g : ℕ) → g < length sizes → total (take g sizes) + getD sizes g 0 ≤ total sizes
+unfolding total
+span-fits [] g h = absurd (omega arith)
+span-fits (n ∷ ns) zero h = omega arith
+span-fits (n ∷ ns) (suc g) h = omega (arith, span-fits ns g (omega arith))

@@ -1,13 +1,10 @@
--- `groups::close_group` meets its contract: withheld, or as it is. Assumes nothing.
+-- `grouping::close_group` meets its contract: withheld, or as it is. Assumes nothing.
 use mathlib.Core.Path.{_∙_}
 use borrow.Author.Tests.{not-true, not-false}
-use Rattle.groups.proofs.Groups.{held, withheld}
+use Rattle.grouping.proofs.Groups.{held, withheld}
 use borrow.Author.Needs.{needs}
-use Rattle.groups.proofs.close_group.Statement.{statement}
-use Rattle.groups.proofs.close_group.Tie as tie
-use Rattle.groups.proofs.close_group.Reads as reads
-use Rattle.groups.proofs.close_group.Lts as lts
-use Rattle.groups.proofs.withhold.Reads as withhold-reads
+use Rattle.grouping.proofs.close_group.Statement.{statement}
+use Rattle.grouping.proofs.close_group.Tie as tie
 
 withhold-requires : tie.Need-withhold-requires
 withhold-requires c κs = search needs

@@ -1,17 +1,15 @@
--- `groups::all_clean` meets its contract. The invariant: all are clean exactly if all that are left are. Assumes nothing.
+-- `grouping::all_clean` meets its contract. The invariant: all are clean exactly if all that are left are. Assumes nothing.
 use mathlib.Core.Path.{_≡_, sym, _∙_}
 use Prim.Native.Nat.{_-_, _≤_}
 use native.Mathlib.Numerals.{add-one}
 use native.Mathlib.Omega.{arith}
 use borrow.Author.Tests.{not-true, not-false}
 use lib.ListN.{length, drop}
-use Rattle.groups.specs.Groups.{all}
-use Rattle.groups.proofs.Clean.{all-open, all-next, all-none}
+use Rattle.grouping.specs.Grouping.{all}
+use Rattle.grouping.proofs.All.{all-open, all-next, all-none}
 use borrow.Author.Needs.{needs}
-use Rattle.groups.proofs.all_clean.Statement.{statement}
-use Rattle.groups.proofs.all_clean.Tie as tie
-use Rattle.groups.proofs.all_clean.Reads as reads
-use Rattle.groups.proofs.all_clean.Lts as lts
+use Rattle.grouping.proofs.all_clean.Statement.{statement}
+use Rattle.grouping.proofs.all_clean.Tie as tie
 
 abbrev Inv-loop : tie.InvT-loop
 Inv-loop clean i₀ i = (i ≤ length clean) × (all clean ≡ all (drop i clean))

@@ -1,15 +1,13 @@
--- `groups::sizes_fault` meets its contract. The invariant: the sizes are wrong exactly if those that are left are, for the frames that are left.
+-- `grouping::sizes_fault` meets its contract. The invariant: the sizes are wrong exactly if those that are left are, for the frames that are left.
 -- Assumes nothing.
 use mathlib.Core.Path.{_≡_, sym}
 use Prim.Native.Nat.{_<_, _≤_, _-_}
 use native.Mathlib.Omega.{arith}
 use lib.ListN.{length, drop}
-use Rattle.groups.proofs.Sizes.{wrong, no-list, some-size, refused-zero, refused-past, rest-next, refused-left, all-taken}
+use Rattle.grouping.proofs.Sizes.{wrong, no-list, some-size, refused-zero, refused-past, rest-next, refused-left, all-taken}
 use borrow.Author.Needs.{needs}
-use Rattle.groups.proofs.sizes_fault.Statement.{statement}
-use Rattle.groups.proofs.sizes_fault.Tie as tie
-use Rattle.groups.proofs.sizes_fault.Reads as reads
-use Rattle.groups.proofs.sizes_fault.Lts as lts
+use Rattle.grouping.proofs.sizes_fault.Statement.{statement}
+use Rattle.grouping.proofs.sizes_fault.Tie as tie
 
 abbrev Inv-loop : tie.InvT-loop
 Inv-loop frames sizes left₀ i₀ left i = (i ≤ length sizes) × (left ≤ frames) × (wrong sizes frames ≡ wrong (drop i sizes) left)
@@ -69,7 +67,7 @@ returns-4 : tie.Need-returns-4 Inv-loop μ-loop
 returns-4 c =
     let left = c .before in
     let at = left .before in
-    sym (refused-left _ _ _ _ (at .loop .inv .2) (some at) (left .loop-test .left) (c .if4 .taken))
+    sym (refused-left _ _ _ _ (at .loop .inv .2) (some at) (left .loop-test .left) (omega (arith, c .if4 .taken)))
 
 returns-5 : tie.Need-returns-5 Inv-loop μ-loop
 returns-5 c =
