@@ -4,19 +4,29 @@
  * -16 to -18 or -20. A refused call has written nothing. A call that only writes answers 0.
  *
  * Counts. A word's count is how many of the code's parity checks it leaves unsatisfied; 0 says that it is a codeword.
- * Beside a count, `first` gets the number of the lowest check that it includes, from 0, or DESKLINK_NO_CHECK where it is
- * 0; beside the count of a decode, `rounds` gets how many rounds were run. Neither pointer is null.
+ * Before a frame is trusted, test that its count is 0, that none of its values is NaN (a dead aerial gives NaN
+ * everywhere, which decodes to the zero word with count 0) and, for (174,91), that its first 77 bits have the
+ * checksum that it carries. A frame that passes all of that is clean; desklink_decode_groups tests it. Beside a
+ * count, `first` gets the number of the lowest check that it includes, from 0, or DESKLINK_NO_CHECK where it is 0;
+ * beside the count of a decode, `rounds` gets how many rounds were run. Neither pointer is null.
  *
  * Slices. A slice is passed as a pointer and then the number of its elements. The pointer is never null (a slice of
- * no elements may have any other pointer that is aligned), is aligned for its type, and the memory is the caller's for
- * the whole call. A slice that is written to overlaps no other slice of the call. That is all that a caller owes: every
- * value of a number, and every length, is tested by the call.
+ * no elements may have any other pointer that is aligned), is aligned for its type, and the memory is the caller's
+ * for the whole call. A slice that is written to overlaps no other slice of the call. That is all that a caller owes:
+ * every value of a number, and every length, is tested by the call.
+ *
+ * Floats. Two machines get the same bits only if both compute rounded to nearest, with subnormals, and a thread's
+ * control word (MXCSR) may say otherwise: a host that sets flush-to-zero or denormals-are-zero would get other bits,
+ * other counts. So each call below that computes with floats is an inline function around the library's own: it sets
+ * the default control word, makes the call, and puts the caller's word back, flags included, also where the call is
+ * refused. The functions whose names end in _unguarded compute under whatever word is set; call one only where that
+ * is known to be the default.
  *
  * Codes. 0 is N512R12 (N 512, K 256), 1 is N576R23 (N 576, K 384), 2 is N512R34 (N 512, K 384); in a batch and for
  * erasures 3 is (174,91) (N 174, K 91), in a batch with rules 0, 3 and 4 only.
- * Rules. 0 is sum-product, 1 min-sum, 2 min-sum scaled by `scale`, 3 the house default: min-sum scaled by 0.75 on codes 0
- * to 2, and rule 4 on code 3. Rule 4, for code 3 alone, is sum-product with the right sign: rule 0 there is the original's,
- * which pulls the wrong way at 24 of its 83 checks and gains nothing over hard decisions.
+ * Rules. 0 is sum-product, 1 min-sum, 2 min-sum scaled by `scale`, 3 the house default: min-sum scaled by 0.75 on
+ * codes 0 to 2, and rule 4 on code 3. Rule 4, for code 3 alone, is sum-product with the right sign: rule 0 there is
+ * the original's, which pulls the wrong way at 24 of its 83 checks and gains nothing over hard decisions.
  *
  * Work area. Each decoder borrows at least DESKLINK_WORK floats, of any contents. After an accepted call the first
  * DESKLINK_WORK of them are +0.0, and the rest are as they were.
@@ -26,13 +36,36 @@
 
 #include <stddef.h>
 #include <stdint.h>
+#include <xmmintrin.h>
+
+/* How the guarded calls are defined: inline in each file that includes this one, or once, by a file that says
+ * otherwise. */
+#ifndef DESKLINK_GUARDED
+#define DESKLINK_GUARDED static inline
+#endif
 
 #ifdef __cplusplus
 extern "C" {
 #endif
 
+#define DESKLINK_VERSION "0.2.0"
 #define DESKLINK_WORK 3070
+#define DESKLINK_MAX_PAIRS 24
 #define DESKLINK_NO_CHECK 65535
+
+enum desklink_code { DESKLINK_N512R12 = 0, DESKLINK_N576R23 = 1, DESKLINK_N512R34 = 2, DESKLINK_FT8 = 3 };
+
+enum desklink_rule {
+    DESKLINK_SUM_PRODUCT = 0,
+    DESKLINK_MIN_SUM = 1,
+    DESKLINK_SCALED_MIN_SUM = 2,
+    DESKLINK_DEFAULT_RULE = 3,
+    DESKLINK_UNNEGATED = 4
+};
+
+/* N, the values of a frame, and K, its message bits, of a code 0 to 3. */
+#define DESKLINK_N(code) ((code) == 1 ? 576 : (code) == 3 ? 174 : 512)
+#define DESKLINK_K(code) ((code) == 0 ? 256 : (code) == 3 ? 91 : 384)
 
 enum desklink_refusal {
     DESKLINK_UNKNOWN_CODE = -1,     /* the code's number names none */
@@ -54,6 +87,14 @@ enum desklink_refusal {
     DESKLINK_GROUP_SIZES = -20      /* a group's size is 0, or the sizes do not add up to the number of pairs */
 };
 
+/* Sets the default control word, nearest, subnormals kept, exceptions masked, and gives the caller's. */
+static inline uint32_t desklink_default_floats(void)
+{
+    uint32_t callers = _mm_getcsr();
+    _mm_setcsr(0x1F80);
+    return callers;
+}
+
 /* The CRC-14 of the first num_bits bits of message, most significant bit first: 0 to 0x3FFF. */
 int32_t desklink_ft8_crc14(const uint8_t *message, size_t message_len, size_t num_bits);
 
@@ -70,8 +111,19 @@ int32_t desklink_ldpc_encode(const uint8_t *message, size_t message_len, uint8_t
 int32_t desklink_ldpc_count_errors(const uint8_t *hard, size_t hard_len, uint16_t *first);
 
 /* llr: 174 values, positive where 0 is likelier; plain: 174 bytes, written. The count of the chosen word. */
-int32_t desklink_ldpc_decode_soft(const float *llr, size_t llr_len, uint16_t limit, uint8_t *plain, size_t plain_len,
-                                  uint16_t *rounds, uint16_t *first, float *work, size_t work_len);
+int32_t desklink_ldpc_decode_soft_unguarded(const float *llr, size_t llr_len, uint16_t limit, uint8_t *plain,
+                                            size_t plain_len, uint16_t *rounds, uint16_t *first, float *work,
+                                            size_t work_len);
+DESKLINK_GUARDED int32_t desklink_ldpc_decode_soft(const float *llr, size_t llr_len, uint16_t limit, uint8_t *plain,
+                                                   size_t plain_len, uint16_t *rounds, uint16_t *first, float *work,
+                                                   size_t work_len)
+{
+    uint32_t callers = desklink_default_floats();
+    int32_t answer = desklink_ldpc_decode_soft_unguarded(llr, llr_len, limit, plain, plain_len, rounds, first, work,
+                                                         work_len);
+    _mm_setcsr(callers);
+    return answer;
+}
 
 /* message: K bytes; codeword: N bytes, written. */
 int32_t desklink_encode(uint32_t code, const uint8_t *message, size_t message_len, uint8_t *codeword,
@@ -81,39 +133,105 @@ int32_t desklink_encode(uint32_t code, const uint8_t *message, size_t message_le
 int32_t desklink_syndrome_weight(uint32_t code, const uint8_t *hard, size_t hard_len, uint16_t *first);
 
 /* llr: N values; bits: K bytes, written. Sum-product. The count of the chosen word. */
-int32_t desklink_decode_soft(uint32_t code, uint16_t limit, const float *llr, size_t llr_len, uint8_t *bits,
-                             size_t bits_len, uint16_t *rounds, uint16_t *first, float *work, size_t work_len);
+int32_t desklink_decode_soft_unguarded(uint32_t code, uint16_t limit, const float *llr, size_t llr_len,
+                                       uint8_t *bits, size_t bits_len, uint16_t *rounds, uint16_t *first,
+                                       float *work, size_t work_len);
+DESKLINK_GUARDED int32_t desklink_decode_soft(uint32_t code, uint16_t limit, const float *llr, size_t llr_len,
+                                              uint8_t *bits, size_t bits_len, uint16_t *rounds, uint16_t *first,
+                                              float *work, size_t work_len)
+{
+    uint32_t callers = desklink_default_floats();
+    int32_t answer = desklink_decode_soft_unguarded(code, limit, llr, llr_len, bits, bits_len, rounds, first, work,
+                                                    work_len);
+    _mm_setcsr(callers);
+    return answer;
+}
 
 /* The same by the rule with that number; scale is read by rule 2 alone, and may have any bits. */
-int32_t desklink_decode_soft_with(uint32_t code, uint32_t rule, float scale, uint16_t limit, const float *llr,
-                                  size_t llr_len, uint8_t *bits, size_t bits_len, uint16_t *rounds, uint16_t *first,
-                                  float *work, size_t work_len);
+int32_t desklink_decode_soft_with_unguarded(uint32_t code, uint32_t rule, float scale, uint16_t limit,
+                                            const float *llr, size_t llr_len, uint8_t *bits, size_t bits_len,
+                                            uint16_t *rounds, uint16_t *first, float *work, size_t work_len);
+DESKLINK_GUARDED int32_t desklink_decode_soft_with(uint32_t code, uint32_t rule, float scale, uint16_t limit,
+                                                   const float *llr, size_t llr_len, uint8_t *bits, size_t bits_len,
+                                                   uint16_t *rounds, uint16_t *first, float *work, size_t work_len)
+{
+    uint32_t callers = desklink_default_floats();
+    int32_t answer = desklink_decode_soft_with_unguarded(code, rule, scale, limit, llr, llr_len, bits, bits_len,
+                                                         rounds, first, work, work_len);
+    _mm_setcsr(callers);
+    return answer;
+}
 
-/* Decodes many frames of one code. pairs: for each frame its offset in values and its length, which is N, in turn, sorted
- * by offset; pairs_len counts those numbers, two a pair, at most 48 (an odd one at the end is not read). bits: K bytes a
- * pair, written; counts, rounds and firsts: one place a pair each, written. */
-int32_t desklink_decode_batch(uint32_t code, uint32_t rule, uint16_t limit, float scale, const float *values,
-                              size_t values_len, const uint32_t *pairs, size_t pairs_len, uint8_t *bits,
-                              size_t bits_len, uint16_t *counts, size_t counts_len, uint16_t *rounds,
-                              size_t rounds_len, uint16_t *firsts, size_t firsts_len, float *work, size_t work_len);
+/* Decodes many frames of one code. pairs: for each frame its offset in values and its length, which is N, in turn,
+ * sorted by offset; pairs_len counts those numbers, two a pair, at most 48 (an odd one at the end is not read).
+ * bits: K bytes a pair, written; counts, rounds and firsts: one place a pair each, written. */
+int32_t desklink_decode_batch_unguarded(uint32_t code, uint32_t rule, uint16_t limit, float scale,
+                                        const float *values, size_t values_len, const uint32_t *pairs,
+                                        size_t pairs_len, uint8_t *bits, size_t bits_len, uint16_t *counts,
+                                        size_t counts_len, uint16_t *rounds, size_t rounds_len, uint16_t *firsts,
+                                        size_t firsts_len, float *work, size_t work_len);
+DESKLINK_GUARDED int32_t desklink_decode_batch(uint32_t code, uint32_t rule, uint16_t limit, float scale,
+                                               const float *values, size_t values_len, const uint32_t *pairs,
+                                               size_t pairs_len, uint8_t *bits, size_t bits_len, uint16_t *counts,
+                                               size_t counts_len, uint16_t *rounds, size_t rounds_len,
+                                               uint16_t *firsts, size_t firsts_len, float *work, size_t work_len)
+{
+    uint32_t callers = desklink_default_floats();
+    int32_t answer = desklink_decode_batch_unguarded(code, rule, limit, scale, values, values_len, pairs, pairs_len,
+                                                     bits, bits_len, counts, counts_len, rounds, rounds_len, firsts,
+                                                     firsts_len, work, work_len);
+    _mm_setcsr(callers);
+    return answer;
+}
 
-/* The same of a batch that was stored when rule 3 stood for rule 0: 3 is taken as 0, and every other number as it is. */
-int32_t desklink_decode_stored_batch(uint32_t code, uint32_t rule, uint16_t limit, float scale, const float *values,
-                                     size_t values_len, const uint32_t *pairs, size_t pairs_len, uint8_t *bits,
-                                     size_t bits_len, uint16_t *counts, size_t counts_len, uint16_t *rounds,
-                                     size_t rounds_len, uint16_t *firsts, size_t firsts_len, float *work,
-                                     size_t work_len);
+/* The same of a batch that was stored when rule 3 stood for rule 0: 3 is taken as 0, and every other number as it
+ * is. */
+int32_t desklink_decode_stored_batch_unguarded(uint32_t code, uint32_t rule, uint16_t limit, float scale,
+                                               const float *values, size_t values_len, const uint32_t *pairs,
+                                               size_t pairs_len, uint8_t *bits, size_t bits_len, uint16_t *counts,
+                                               size_t counts_len, uint16_t *rounds, size_t rounds_len,
+                                               uint16_t *firsts, size_t firsts_len, float *work, size_t work_len);
+DESKLINK_GUARDED int32_t desklink_decode_stored_batch(uint32_t code, uint32_t rule, uint16_t limit, float scale,
+                                                      const float *values, size_t values_len, const uint32_t *pairs,
+                                                      size_t pairs_len, uint8_t *bits, size_t bits_len,
+                                                      uint16_t *counts, size_t counts_len, uint16_t *rounds,
+                                                      size_t rounds_len, uint16_t *firsts, size_t firsts_len,
+                                                      float *work, size_t work_len)
+{
+    uint32_t callers = desklink_default_floats();
+    int32_t answer = desklink_decode_stored_batch_unguarded(code, rule, limit, scale, values, values_len, pairs,
+                                                            pairs_len, bits, bits_len, counts, counts_len, rounds,
+                                                            rounds_len, firsts, firsts_len, work, work_len);
+    _mm_setcsr(callers);
+    return answer;
+}
 
-/* The batch with groups, for frames that are of use only together. sizes: how many frames each group has, in turn, each
- * at least 1, together as many as there are pairs; the first group takes the first pairs, and so on. A group is delivered
- * if all its frames are clean: a frame is clean when its count is 0, none of its values is NaN and, for code 3, its bits
- * carry the checksum of their first 77. All bit bytes of any other group are 255, which no bit's byte is; counts, rounds and
- * firsts are those of every frame all the same. With sizes_len 0 there are no groups, and this is desklink_decode_batch. */
-int32_t desklink_decode_groups(uint32_t code, uint32_t rule, uint16_t limit, float scale, const float *values,
-                               size_t values_len, const uint32_t *pairs, size_t pairs_len, const uint32_t *sizes,
-                               size_t sizes_len, uint8_t *bits, size_t bits_len, uint16_t *counts, size_t counts_len,
-                               uint16_t *rounds, size_t rounds_len, uint16_t *firsts, size_t firsts_len, float *work,
-                               size_t work_len);
+/* The batch with groups, for frames that are of use only together. sizes: how many frames each group has, in turn,
+ * each at least 1, together as many as there are pairs; the first group takes the first pairs, and so on. A group
+ * is delivered if all its frames are clean: a frame is clean when its count is 0, none of its values is NaN and,
+ * for code 3, its bits carry the checksum of their first 77. All bit bytes of any other group are 255, which no
+ * bit's byte is; counts, rounds and firsts are those of every frame all the same. With sizes_len 0 there are no
+ * groups, and this is desklink_decode_batch. */
+int32_t desklink_decode_groups_unguarded(uint32_t code, uint32_t rule, uint16_t limit, float scale,
+                                         const float *values, size_t values_len, const uint32_t *pairs,
+                                         size_t pairs_len, const uint32_t *sizes, size_t sizes_len, uint8_t *bits,
+                                         size_t bits_len, uint16_t *counts, size_t counts_len, uint16_t *rounds,
+                                         size_t rounds_len, uint16_t *firsts, size_t firsts_len, float *work,
+                                         size_t work_len);
+DESKLINK_GUARDED int32_t desklink_decode_groups(uint32_t code, uint32_t rule, uint16_t limit, float scale,
+                                                const float *values, size_t values_len, const uint32_t *pairs,
+                                                size_t pairs_len, const uint32_t *sizes, size_t sizes_len,
+                                                uint8_t *bits, size_t bits_len, uint16_t *counts, size_t counts_len,
+                                                uint16_t *rounds, size_t rounds_len, uint16_t *firsts,
+                                                size_t firsts_len, float *work, size_t work_len)
+{
+    uint32_t callers = desklink_default_floats();
+    int32_t answer = desklink_decode_groups_unguarded(code, rule, limit, scale, values, values_len, pairs, pairs_len,
+                                                      sizes, sizes_len, bits, bits_len, counts, counts_len, rounds,
+                                                      rounds_len, firsts, firsts_len, work, work_len);
+    _mm_setcsr(callers);
+    return answer;
+}
 
 /* word: N bytes, each 0, 1, or 2 for an unknown bit; the unknown bits that the checks of the code (0 to 3) decide are
  * set. places: N numbers, of which the first ones are written: the positions that were set, in the order in which they
@@ -122,10 +240,26 @@ int32_t desklink_fill_erasures(uint32_t code, uint8_t *word, size_t word_len, ui
 
 /* Soft bytes, -127 to 127 in eighths, and values, as many of one as of the other; where positive_is_one is not 0, the
  * bytes are of a model that counts positive as 1. Either call undoes the other. */
-int32_t desklink_values_of_bytes(const int8_t *bytes, size_t bytes_len, uint32_t positive_is_one, float *values,
-                                 size_t values_len);
-int32_t desklink_bytes_of_values(const float *values, size_t values_len, uint32_t positive_is_one, int8_t *bytes,
-                                 size_t bytes_len);
+int32_t desklink_values_of_bytes_unguarded(const int8_t *bytes, size_t bytes_len, uint32_t positive_is_one,
+                                           float *values, size_t values_len);
+DESKLINK_GUARDED int32_t desklink_values_of_bytes(const int8_t *bytes, size_t bytes_len, uint32_t positive_is_one,
+                                                  float *values, size_t values_len)
+{
+    uint32_t callers = desklink_default_floats();
+    int32_t answer = desklink_values_of_bytes_unguarded(bytes, bytes_len, positive_is_one, values, values_len);
+    _mm_setcsr(callers);
+    return answer;
+}
+int32_t desklink_bytes_of_values_unguarded(const float *values, size_t values_len, uint32_t positive_is_one,
+                                           int8_t *bytes, size_t bytes_len);
+DESKLINK_GUARDED int32_t desklink_bytes_of_values(const float *values, size_t values_len, uint32_t positive_is_one,
+                                                  int8_t *bytes, size_t bytes_len)
+{
+    uint32_t callers = desklink_default_floats();
+    int32_t answer = desklink_bytes_of_values_unguarded(values, values_len, positive_is_one, bytes, bytes_len);
+    _mm_setcsr(callers);
+    return answer;
+}
 
 #ifdef __cplusplus
 }

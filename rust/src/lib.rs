@@ -15,6 +15,7 @@
 use std::cell::RefCell;
 
 mod batch;
+mod floats;
 mod moves;
 mod refusal;
 pub mod slices;

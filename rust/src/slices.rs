@@ -1,4 +1,5 @@
 //! The calls on plain slices, each tested and refused by the library itself. The orion-sdr shapes of the crate's root are written over these.
+use crate::floats::DefaultFloats;
 use crate::Refusal;
 
 mod ffi {
@@ -8,7 +9,7 @@ mod ffi {
         pub fn desklink_ft8_extract_crc(a91: *const u8, a91_len: usize) -> i32;
         pub fn desklink_ldpc_encode(message: *const u8, message_len: usize, codeword: *mut u8, codeword_len: usize) -> i32;
         pub fn desklink_ldpc_count_errors(hard: *const u8, hard_len: usize, first: *mut u16) -> i32;
-        pub fn desklink_ldpc_decode_soft(
+        pub fn desklink_ldpc_decode_soft_unguarded(
             llr: *const f32,
             llr_len: usize,
             limit: u16,
@@ -21,7 +22,7 @@ mod ffi {
         ) -> i32;
         pub fn desklink_encode(code: u32, message: *const u8, message_len: usize, codeword: *mut u8, codeword_len: usize) -> i32;
         pub fn desklink_syndrome_weight(code: u32, hard: *const u8, hard_len: usize, first: *mut u16) -> i32;
-        pub fn desklink_decode_soft(
+        pub fn desklink_decode_soft_unguarded(
             code: u32,
             limit: u16,
             llr: *const f32,
@@ -33,7 +34,7 @@ mod ffi {
             work: *mut f32,
             work_len: usize,
         ) -> i32;
-        pub fn desklink_decode_soft_with(
+        pub fn desklink_decode_soft_with_unguarded(
             code: u32,
             rule: u32,
             scale: f32,
@@ -47,7 +48,7 @@ mod ffi {
             work: *mut f32,
             work_len: usize,
         ) -> i32;
-        pub fn desklink_decode_batch(
+        pub fn desklink_decode_batch_unguarded(
             code: u32,
             rule: u32,
             limit: u16,
@@ -67,7 +68,7 @@ mod ffi {
             work: *mut f32,
             work_len: usize,
         ) -> i32;
-        pub fn desklink_decode_stored_batch(
+        pub fn desklink_decode_stored_batch_unguarded(
             code: u32,
             rule: u32,
             limit: u16,
@@ -87,7 +88,7 @@ mod ffi {
             work: *mut f32,
             work_len: usize,
         ) -> i32;
-        pub fn desklink_decode_groups(
+        pub fn desklink_decode_groups_unguarded(
             code: u32,
             rule: u32,
             limit: u16,
@@ -110,8 +111,8 @@ mod ffi {
             work_len: usize,
         ) -> i32;
         pub fn desklink_fill_erasures(code: u32, word: *mut u8, word_len: usize, places: *mut u16, places_len: usize) -> i32;
-        pub fn desklink_values_of_bytes(bytes: *const i8, bytes_len: usize, positive_is_one: u32, values: *mut f32, values_len: usize) -> i32;
-        pub fn desklink_bytes_of_values(values: *const f32, values_len: usize, positive_is_one: u32, bytes: *mut i8, bytes_len: usize) -> i32;
+        pub fn desklink_values_of_bytes_unguarded(bytes: *const i8, bytes_len: usize, positive_is_one: u32, values: *mut f32, values_len: usize) -> i32;
+        pub fn desklink_bytes_of_values_unguarded(values: *const f32, values_len: usize, positive_is_one: u32, bytes: *mut i8, bytes_len: usize) -> i32;
     }
 }
 
@@ -189,9 +190,10 @@ pub fn ldpc_count_errors(hard: &[u8]) -> Result<Counted, Refusal> {
 
 /// 174 values to 174 bits and the count of unsatisfied checks.
 pub fn ldpc_decode_soft(llr: &[f32], limit: u16, plain: &mut [u8], work: &mut [f32]) -> Result<Decoded, Refusal> {
+    let _floats = DefaultFloats::set();
     let (mut rounds, mut first) = (0, NO_CHECK);
     let count = answer(unsafe {
-        ffi::desklink_ldpc_decode_soft(
+        ffi::desklink_ldpc_decode_soft_unguarded(
             llr.as_ptr(),
             llr.len(),
             limit,
@@ -220,9 +222,10 @@ pub fn syndrome_weight(code: u32, hard: &[u8]) -> Result<Counted, Refusal> {
 
 /// N values to K bits and the count of unsatisfied checks, by sum-product.
 pub fn decode_soft(code: u32, limit: u16, llr: &[f32], bits: &mut [u8], work: &mut [f32]) -> Result<Decoded, Refusal> {
+    let _floats = DefaultFloats::set();
     let (mut rounds, mut first) = (0, NO_CHECK);
     let count = answer(unsafe {
-        ffi::desklink_decode_soft(
+        ffi::desklink_decode_soft_unguarded(
             code,
             limit,
             llr.as_ptr(),
@@ -248,9 +251,10 @@ pub fn decode_soft_with(
     bits: &mut [u8],
     work: &mut [f32],
 ) -> Result<Decoded, Refusal> {
+    let _floats = DefaultFloats::set();
     let (mut rounds, mut first) = (0, NO_CHECK);
     let count = answer(unsafe {
-        ffi::desklink_decode_soft_with(
+        ffi::desklink_decode_soft_with_unguarded(
             code,
             rule,
             scale,
@@ -298,6 +302,7 @@ macro_rules! batch_call {
             work: &mut [f32],
         ) -> Result<(), Refusal> {
             let pairs = pairs.as_flattened();
+            let _floats = DefaultFloats::set();
             answer(unsafe {
                 ffi::$foreign(
                     code,
@@ -328,18 +333,18 @@ macro_rules! batch_call {
 
 batch_call! {
     /// Many frames of one code: each pair is an offset into `values` and a length, which is N.
-    decode_batch desklink_decode_batch
+    decode_batch desklink_decode_batch_unguarded
 }
 
 batch_call! {
     /// The same of a batch that was stored when rule 3 stood for rule 0: 3 is taken as 0, and every other number as it is.
-    decode_stored_batch desklink_decode_stored_batch
+    decode_stored_batch desklink_decode_stored_batch_unguarded
 }
 
 batch_call! {
     /// The same with groups: `sizes` has the number of frames of each group in turn, in place order. A group whose frames are all clean has its bits;
     /// all bit bytes of any other are 255. With no sizes this is [`decode_batch`].
-    decode_groups desklink_decode_groups sizes
+    decode_groups desklink_decode_groups_unguarded sizes
 }
 
 /// Sets the unknown bits (2) of a recorded word of N bytes that the checks of code 0 to 3 decide, one after another, and lists their positions at
@@ -364,10 +369,12 @@ pub fn fill_erasures(code: u32, word: &mut [u8], places: &mut [u16]) -> Result<u
 /// assert_eq!(values, [-1.0, 0.0, 0.125]);
 /// ```
 pub fn values_of_bytes(bytes: &[i8], positive_is_one: bool, values: &mut [f32]) -> Result<(), Refusal> {
-    answer(unsafe { ffi::desklink_values_of_bytes(bytes.as_ptr(), bytes.len(), positive_is_one.into(), values.as_mut_ptr(), values.len()) }).map(drop)
+    let _floats = DefaultFloats::set();
+    answer(unsafe { ffi::desklink_values_of_bytes_unguarded(bytes.as_ptr(), bytes.len(), positive_is_one.into(), values.as_mut_ptr(), values.len()) }).map(drop)
 }
 
 /// Values that are eighths back to as many soft bytes.
 pub fn bytes_of_values(values: &[f32], positive_is_one: bool, bytes: &mut [i8]) -> Result<(), Refusal> {
-    answer(unsafe { ffi::desklink_bytes_of_values(values.as_ptr(), values.len(), positive_is_one.into(), bytes.as_mut_ptr(), bytes.len()) }).map(drop)
+    let _floats = DefaultFloats::set();
+    answer(unsafe { ffi::desklink_bytes_of_values_unguarded(values.as_ptr(), values.len(), positive_is_one.into(), bytes.as_mut_ptr(), bytes.len()) }).map(drop)
 }

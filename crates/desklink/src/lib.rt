@@ -138,7 +138,7 @@ pub extern "C" fn desklink_ldpc_count_errors(hard: &[u8], first: &mut u16) -> i3
 }
 
 #[no_mangle]
-pub extern "C" fn desklink_ldpc_decode_soft(
+pub extern "C" fn desklink_ldpc_decode_soft_unguarded(
     llr: &[f32],
     limit: u16,
     plain: &mut [u8],
@@ -175,7 +175,7 @@ pub extern "C" fn desklink_syndrome_weight(code: u32, hard: &[u8], first: &mut u
 }
 
 #[no_mangle]
-pub extern "C" fn desklink_decode_soft(
+pub extern "C" fn desklink_decode_soft_unguarded(
     code: u32,
     limit: u16,
     llr: &[f32],
@@ -195,7 +195,7 @@ pub extern "C" fn desklink_decode_soft(
 }
 
 #[no_mangle]
-pub extern "C" fn desklink_decode_soft_with(
+pub extern "C" fn desklink_decode_soft_with_unguarded(
     code: u32,
     rule: u32,
     scale: f32,
@@ -219,7 +219,7 @@ pub extern "C" fn desklink_decode_soft_with(
 // ---- the batch
 
 #[no_mangle]
-pub extern "C" fn desklink_decode_batch(
+pub extern "C" fn desklink_decode_batch_unguarded(
     code: u32,
     rule: u32,
     limit: u16,
@@ -255,7 +255,7 @@ pub extern "C" fn desklink_decode_batch(
 
 // The same of a batch that was stored when rule 3 stood for rule 0.
 #[no_mangle]
-pub extern "C" fn desklink_decode_stored_batch(
+pub extern "C" fn desklink_decode_stored_batch_unguarded(
     code: u32,
     rule: u32,
     limit: u16,
@@ -293,7 +293,7 @@ pub extern "C" fn desklink_decode_stored_batch(
 
 // The batch with a list of group sizes: the frames of a group are delivered together, or all its bit bytes are 255.
 #[no_mangle]
-pub extern "C" fn desklink_decode_groups(
+pub extern "C" fn desklink_decode_groups_unguarded(
     code: u32,
     rule: u32,
     limit: u16,
@@ -344,7 +344,7 @@ pub extern "C" fn desklink_fill_erasures(code: u32, word: &mut [u8], places: &mu
 // ---- soft values in eighths: any number but 0 says that positive counts as 1
 
 #[no_mangle]
-pub extern "C" fn desklink_values_of_bytes(
+pub extern "C" fn desklink_values_of_bytes_unguarded(
     bytes: &[i8],
     positive_is_one: u32,
     values: &mut [f32],
@@ -356,7 +356,7 @@ pub extern "C" fn desklink_values_of_bytes(
 }
 
 #[no_mangle]
-pub extern "C" fn desklink_bytes_of_values(
+pub extern "C" fn desklink_bytes_of_values_unguarded(
     values: &[f32],
     positive_is_one: u32,
     bytes: &mut [i8],

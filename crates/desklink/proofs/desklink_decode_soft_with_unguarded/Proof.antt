@@ -1,11 +1,11 @@
--- `desklink::desklink_decode_soft_with` meets its contract: the call beneath, its answer told as numbers. Assumes nothing.
+-- `desklink::desklink_decode_soft_with_unguarded` meets its contract: the call beneath, its answer told as numbers. Assumes nothing.
 use Rattle.desklink.proofs.Signed.{read-back}
 use Rattle.desklink.proofs.Told.{decode-told}
 use borrow.Author.Needs.{needs}
-use Rattle.desklink.proofs.desklink_decode_soft_with.Statement.{statement}
-use Rattle.desklink.proofs.desklink_decode_soft_with.Tie as tie
-use Rattle.desklink.proofs.desklink_decode_soft_with.Reads as reads
-use Rattle.desklink.proofs.desklink_decode_soft_with.Lts as lts
+use Rattle.desklink.proofs.desklink_decode_soft_with_unguarded.Statement.{statement}
+use Rattle.desklink.proofs.desklink_decode_soft_with_unguarded.Tie as tie
+use Rattle.desklink.proofs.desklink_decode_soft_with_unguarded.Reads as reads
+use Rattle.desklink.proofs.desklink_decode_soft_with_unguarded.Lts as lts
 use Rattle.decoders.proofs.decode_soft_with.Reads as decode-soft-with-reads
 use Rattle.desklink.proofs.decoding_code.Reads as decoding-code-reads
 
@@ -27,7 +27,7 @@ same-length-2 c = search needs
 returns : tie.Need-returns
 returns c = decode-told _ (decoded c .decode-soft-with .ensures) (c .decoding-code .ensures) (read-back (record { sfits = c .decoding-code .ok }))
 
-pub desklink-decode-soft-with-spec : {M : Type 1} → statement M
-desklink-decode-soft-with-spec =
+pub desklink-decode-soft-with-unguarded-spec : {M : Type 1} → statement M
+desklink-decode-soft-with-unguarded-spec =
     tie.close
     (tie.spec decode-soft-with-requires decoding-code-requires same-length same-length-2 returns)

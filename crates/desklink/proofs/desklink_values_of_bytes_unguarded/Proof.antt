@@ -1,12 +1,12 @@
--- `desklink::desklink_values_of_bytes` meets its contract: the answer of the call beneath, as a number. Assumes nothing.
+-- `desklink::desklink_values_of_bytes_unguarded` meets its contract: the answer of the call beneath, as a number. Assumes nothing.
 use mathlib.Core.Path.{_≡_, ap, _∙_}
 use Rattle.desklink.proofs.Signed.{read-back}
 use Rattle.desklink.specs.Coded.{codedUnit}
 use borrow.Author.Needs.{needs}
-use Rattle.desklink.proofs.desklink_values_of_bytes.Statement.{statement}
-use Rattle.desklink.proofs.desklink_values_of_bytes.Tie as tie
-use Rattle.desklink.proofs.desklink_values_of_bytes.Reads as reads
-use Rattle.desklink.proofs.desklink_values_of_bytes.Lts as lts
+use Rattle.desklink.proofs.desklink_values_of_bytes_unguarded.Statement.{statement}
+use Rattle.desklink.proofs.desklink_values_of_bytes_unguarded.Tie as tie
+use Rattle.desklink.proofs.desklink_values_of_bytes_unguarded.Reads as reads
+use Rattle.desklink.proofs.desklink_values_of_bytes_unguarded.Lts as lts
 use Rattle.eighths.proofs.values_of_bytes.Reads as values-of-bytes-reads
 use Rattle.desklink.proofs.status_code.Reads as status-code-reads
 
@@ -22,5 +22,5 @@ same-length c = search needs
 returns : tie.Need-returns
 returns c = (read-back (record { sfits = c .status-code .ok }) ∙ c .status-code .ensures ∙ ap codedUnit (c .before .before .before .values-of-bytes .ensures .0), c .before .before .before .values-of-bytes .ensures .1)
 
-pub desklink-values-of-bytes-spec : {M : Type 1} → statement M
-desklink-values-of-bytes-spec = tie.close (tie.spec values-of-bytes-requires status-code-requires same-length returns)
+pub desklink-values-of-bytes-unguarded-spec : {M : Type 1} → statement M
+desklink-values-of-bytes-unguarded-spec = tie.close (tie.spec values-of-bytes-requires status-code-requires same-length returns)

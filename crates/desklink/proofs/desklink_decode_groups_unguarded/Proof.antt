@@ -1,9 +1,9 @@
--- `desklink::desklink_decode_groups` meets its contract: the call beneath, its answer told as a number. Assumes nothing.
+-- `desklink::desklink_decode_groups_unguarded` meets its contract: the call beneath, its answer told as a number. Assumes nothing.
 use Rattle.desklink.proofs.Signed.{read-back}
 use Rattle.desklink.proofs.Told.{groups-told}
 use borrow.Author.Needs.{needs}
-use Rattle.desklink.proofs.desklink_decode_groups.Statement.{statement}
-use Rattle.desklink.proofs.desklink_decode_groups.Tie as tie
+use Rattle.desklink.proofs.desklink_decode_groups_unguarded.Statement.{statement}
+use Rattle.desklink.proofs.desklink_decode_groups_unguarded.Tie as tie
 
 abbrev decoded : tie.After-status-code → tie.After-decode-groups
 decoded c =
@@ -35,8 +35,8 @@ same-length-5 c = search needs
 returns : tie.Need-returns
 returns c = groups-told _ _ (decoded c .decode-groups .ensures) (c .status-code .ensures) (read-back (record { sfits = c .status-code .ok }))
 
-pub desklink-decode-groups-spec : {M : Type 1} → statement M
-desklink-decode-groups-spec =
+pub desklink-decode-groups-unguarded-spec : {M : Type 1} → statement M
+desklink-decode-groups-unguarded-spec =
     tie.close
     (tie.spec
     decode-groups-requires
