@@ -1,6 +1,6 @@
 -- Demand 3, the promise between two limits: what is said of a frame that two accepted batches hold, of what the calls leave in the lent memory.
--- A call with groups overwrites the bits of some frames afterwards (change request N13): of such a call this is said of its numbers and "of the bits before that
--- overwriting" (`Before`, specs/Promise of `groups`).
+-- A call with groups overwrites the bits of some frames afterwards (change request N13): of such a call this is said of its numbers "and of the bits before
+-- that overwriting" (`Before`, specs/Promise of `groups`).
 use mathlib.Core.Path.{_≡_}
 use mathlib.Core.List.{List, []}
 use Prim.Native.Nat.{ℕ, _*_, _<_, _≤_, min}
@@ -15,7 +15,8 @@ use Rattle.belief.specs.Chosen.{words, FirstLeast}
 use Rattle.batch.specs.Codes.{sizeK, encodingBy}
 use Rattle.batch.specs.Calls.{Lent, Batch, frames, frameDecode, placeOf, Answered}
 
--- a call that was made: what was handed over, what it answered, what it left in the lent memory; by the contract of `decode_batch`, and of every call that has it
+-- a call that was made: what was handed over, what it answered, what it left in the lent memory; by the contract of `decode_batch`, and of every call that
+-- has it
 pub record Call : Type 0 where
   pub handed : Batch
   pub answer : Outcome Unit

@@ -29,5 +29,6 @@ decode-told s {answer} {bits} {work} {z} {n} {rounds} {first} a d read = record 
 pub batch-told : (b : batch.Batch) {answer : Outcome Unit} {left : batch.Lent} {z n : ℤ} → batch.Answered b answer left → z ≡ codedUnit answer → n ≡ z → BatchCall b n left
 batch-told b a coded read = record { says = read ∙ coded ∙ ap codedUnit (a .says); leaves = a .leaves }
 
-pub groups-told : (b : batch.Batch) (sizes : List ℕ) {answer : Outcome Unit} {left : batch.Lent} {z n : ℤ} → groups.Answered b sizes answer left → z ≡ codedUnit answer → n ≡ z → GroupsCall b sizes n left
+pub groups-told : (b : batch.Batch) (sizes : List ℕ) {answer : Outcome Unit} {left : batch.Lent} {z n : ℤ} → groups.Answered b sizes answer left
+    → z ≡ codedUnit answer → n ≡ z → GroupsCall b sizes n left
 groups-told b sizes a coded read = record { says = read ∙ coded ∙ ap codedUnit (a .says); leaves = a .leaves }

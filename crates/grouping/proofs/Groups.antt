@@ -6,7 +6,7 @@ use Prim.Native.Nat.{ℕ, zero, suc, _+_, _-_, _*_, _<_, _≤_}
 use native.Mathlib.Nat.{add-mul, zero-mul, mul-le-mul}
 use native.Mathlib.Numerals.{add-one}
 use native.Mathlib.Omega.{arith}
-use borrow.Rule.Slice.PartMut.{postOf, putMid, same-len-mid, drop-put}
+use borrow.Rule.Slice.PartMut.{postOf, putMid, mid-len, same-len-mid, drop-put}
 use lib.ListN.{length, getD, take, drop, replicate, length-replicate, length-drop, drop-of-length-le, take-append-drop}
 use lib.Seq.{drop-cons, drop-drop, length-take-le, take-append-add, take-append-seam, take-at, drop-append-add}
 use Rattle.grouping.specs.Grouping.{total, all, groupBits, delivered}
@@ -54,24 +54,27 @@ module _ (k : ℕ) (sizes : List ℕ) (clean : List Bool) (at g : ℕ) (h : g < 
   span = add-mul at n k
 
   pub bytes-fit : (bits : List ℕ) → length bits ≡ length clean * k → (from ≤ to) × (to ≤ length bits)
-  bytes-fit bits size = (omega (arith, span), omega (arith, size, mul-le-mul {n₁ = at + n} {m₁ = k} {n₂ = length clean} {m₂ = k} frames-fit (omega arith)))
+  bytes-fit bits size =
+      let most = mul-le-mul {n₁ = at + n} {m₁ = k} {n₂ = length clean} {m₂ = k} frames-fit (omega arith) in
+      (omega (arith, span), omega (arith, size, most))
+
+  -- the group's bytes as they are, and whether it is delivered
+  abbrev own : List ℕ → List ℕ
+  own bits = take (to - from) (drop from bits)
+
+  abbrev ready : Bool
+  ready = all (take (at + n - at) (drop at clean))
 
   -- a group's bytes put in their place
-  module _ (bits part : List ℕ) (size : length bits ≡ length clean * k) (new : part ≡ groupBits (all (take (at + n - at) (drop at clean))) (take (to - from) (drop from bits))) where
+  module _ (bits part : List ℕ) (size : length bits ≡ length clean * k) (new : part ≡ groupBits ready (own bits)) where
     abbrev next : List ℕ
     next = putMid from (to - from) bits part
 
     part-length : length part ≡ to - from
-    part-length =
-        let fit = bytes-fit bits size in
-        ap length new ∙ group-length (all (take (at + n - at) (drop at clean))) (take (to - from) (drop from bits))
-        ∙ length-take-le (to - from) (drop from bits) (simp length-drop (omega (arith, fit .0, fit .1)))
+    part-length = ap length new ∙ group-length ready (own bits) ∙ mid-len from to bits (bytes-fit bits size .1)
 
     pub next-length : length next ≡ length clean * k
-    next-length =
-        let fit = bytes-fit bits size in
-        let mid = length-take-le (to - from) (drop from bits) (simp length-drop (omega (arith, fit .0, fit .1))) in
-        same-len-mid from (to - from) bits part (part-length ∙ sym mid) ∙ size
+    next-length = same-len-mid from (to - from) bits part (part-length ∙ sym (mid-len from to bits (bytes-fit bits size .1))) ∙ size
 
     passed : take to next ≡ take from bits ++ part
     passed =
@@ -79,7 +82,8 @@ module _ (k : ℕ) (sizes : List ℕ) (clean : List Bool) (at g : ℕ) (h : g < 
         let front = length-take-le from bits (omega (arith, fit .0, fit .1)) in
         let e : to ≡ length (take from bits) + length part = omega (arith, front, part-length, fit .0) in
         let after = postOf from (to - from) bits in
-        ap (λ (m : ℕ). take m next) e ∙ take-append-add (take from bits) (part ++ after) (length part) ∙ ap (λ (l : List ℕ). take from bits ++ l) (take-append-seam part after)
+        ap (λ (m : ℕ). take m next) e ∙ take-append-add (take from bits) (part ++ after) (length part)
+        ∙ ap (λ (l : List ℕ). take from bits ++ l) (take-append-seam part after)
 
     left : drop to next ≡ drop to bits
     left = let fit = bytes-fit bits size in drop-put from to bits part (fit .0) (fit .1) part-length
@@ -101,7 +105,8 @@ module _ (k : ℕ) (sizes : List ℕ) (clean : List Bool) (at g : ℕ) (h : g < 
 
 -- after the last group
 pub all-closed : (k : ℕ) (sizes : List ℕ) (clean : List Bool) (before bits : List ℕ) (at g : ℕ) → length sizes ≤ g
-    → delivered k sizes clean before ≡ take (at * k) bits ++ delivered k (drop g sizes) (drop at clean) (drop (at * k) bits) → bits ≡ delivered k sizes clean before
+    → delivered k sizes clean before ≡ take (at * k) bits ++ delivered k (drop g sizes) (drop at clean) (drop (at * k) bits)
+    → bits ≡ delivered k sizes clean before
 unfolding delivered
 all-closed k sizes clean before bits at g h so =
     sym (so ∙ rw (drop-of-length-le sizes {i = g} h) (take-append-drop (at * k) bits))

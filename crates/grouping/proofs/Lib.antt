@@ -1,3 +1,4 @@
 pub mod Sizes
 pub mod All
 pub mod Groups
+pub mod Cases

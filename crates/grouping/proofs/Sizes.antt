@@ -47,7 +47,8 @@ right-none left h = let z : 0 ≡ left = omega arith in simp (eq-eqb 0 left z)
 
 -- ---- the sizes from place i on, with the frames that are left for them
 
-judged-wrong : (sizes : List ℕ) (frames : ℕ) (t : Bool) → 0 < length sizes → wrong sizes frames ≡ t → verdict (sizeRefusals frames sizes) ≡ cond t (refused 20) nothing
+judged-wrong : (sizes : List ℕ) (frames : ℕ) (t : Bool) → 0 < length sizes → wrong sizes frames ≡ t
+    → verdict (sizeRefusals frames sizes) ≡ cond t (refused 20) nothing
 judged-wrong [] frames t h e = absurd (omega arith)
 judged-wrong (n ∷ ns) frames t h e = rw e
 

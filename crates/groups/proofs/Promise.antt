@@ -1,5 +1,5 @@
--- What is promised of a call with groups: an accepted call is a batch whose bits were overwritten, so that what the batch promises carries over, frame by frame.
--- Assumes nothing.
+-- What is promised of a call with groups: an accepted call is a batch whose bits were overwritten, so that what the batch promises carries over, frame by
+-- frame. Assumes nothing.
 use mathlib.Core.Path.{_≡_, refl, sym, ap, subst, _∙_}
 use mathlib.Core.Bool.{true}
 use mathlib.Core.List.{List, [], append-nil}
@@ -23,7 +23,22 @@ use Rattle.clean_frames.specs.Limits.{cleanAt}
 use Rattle.clean_frames.proofs.Limits.{clean-in-both, clean-bits}
 use Rattle.grouping.specs.Grouping.{total, groupBits, delivered}
 use Rattle.groups.specs.Groups.{groupRefusals, cleanList, overwritten}
-use Rattle.groups.specs.Promise.{NoList, GroupCall, Accepted, sizeOf, startOf, bytesOf, isDelivered, bitsOf, bitsBefore, before, Before, AllOrNothing, SameGroup, StaysDelivered}
+use Rattle.groups.specs.Promise.{
+  NoList,
+  GroupCall,
+  Accepted,
+  sizeOf,
+  startOf,
+  bytesOf,
+  isDelivered,
+  bitsOf,
+  bitsBefore,
+  before,
+  Before,
+  AllOrNothing,
+  SameGroup,
+  StaysDelivered,
+}
 use Rattle.grouping.proofs.Sizes.{sizes-right, total-fits, size-some, span-fits}
 use Rattle.groups.proofs.Clean.{each-clean, all-clean}
 use Rattle.grouping.proofs.Groups.{held, withheld, group-length, group-at}
@@ -43,7 +58,9 @@ nothing-overwritten b wrote = refl
 pub no-list : (b : Batch) (answer : Outcome Unit) (left : Lent) → NoList b answer left
 no-list b answer left =
     let tests = ap (λ (cs : List Condition). judged cs tt) (no-tests b) in
-    let same = ap (λ (cs : List Condition). kept cs (b .memory) (overwritten b [] (written b))) (no-tests b) ∙ ap (kept (refusals b) (b .memory)) (nothing-overwritten b (written b)) in
+    let same =
+    ap (λ (cs : List Condition). kept cs (b .memory) (overwritten b [] (written b))) (no-tests b)
+    ∙ ap (kept (refusals b) (b .memory)) (nothing-overwritten b (written b)) in
     record {
       isBatch = λ a. record { says = a .says ∙ tests; leaves = a .leaves ∙ same };
       fromBatch = λ a. record { says = a .says ∙ sym tests; leaves = a .leaves ∙ sym same };
@@ -107,7 +124,8 @@ module _ (c : GroupCall) (ok : Accepted c) where
     long : length (bitsBefore c g) ≡ sizeOf c g * k
     long =
         let fits = bytes-in (startOf c g + sizeOf c g) frames-in in
-        length-take-le (sizeOf c g * k) (drop (startOf c g * k) (written b .bits)) (simp length-drop (omega (arith, fits, add-mul (startOf c g) (sizeOf c g) k)))
+        let span = add-mul (startOf c g) (sizeOf c g) k in
+        length-take-le (sizeOf c g * k) (drop (startOf c g * k) (written b .bits)) (simp length-drop (omega (arith, fits, span)))
 
     pub whole : isDelivered c g ≡ true → bitsOf c g ≡ bitsBefore c g
     whole e = own ∙ sym (held (isDelivered c g) (bitsBefore c g) e)

@@ -31,13 +31,14 @@ module _ (b : Batch) (sizes : List ℕ) where
     pub sizes-passed : verdict (sizeRefusals (length (b .pairs)) sizes) ≡ nothing
     sizes-passed = accepted-rest (refusals b) (sizeRefusals (length (b .pairs)) sizes) v
 
-    pub carried-out : (answer : Outcome Unit) (bits : List ℕ) (wrote : Lent) → batch.Answered b answer wrote → bits ≡ delivered (sizeK (b .code)) sizes (cleanList b wrote) (wrote .bits)
+    pub carried-out : (answer : Outcome Unit) (bits : List ℕ) (wrote : Lent) → batch.Answered b answer wrote
+        → bits ≡ delivered (sizeK (b .code)) sizes (cleanList b wrote) (wrote .bits)
         → Answered b sizes answer (lent bits (wrote .counts) (wrote .rounds) (wrote .firsts) (wrote .work))
     unfolding overwritten
     carried-out answer bits wrote a e =
         let done : wrote ≡ written b = a .leaves ∙ kept-accepted (refusals b) (b .memory) (written b) batch-passed in
-        let left : lent bits (wrote .counts) (wrote .rounds) (wrote .firsts) (wrote .work) ≡ overwritten b sizes wrote = ap (λ (l : List ℕ). lent l (wrote .counts) (wrote .rounds) (wrote .firsts) (wrote .work)) e in
+        let with-bits : List ℕ → Lent = λ l. lent l (wrote .counts) (wrote .rounds) (wrote .firsts) (wrote .work) in
         record {
           says = a .says ∙ batch-passed ∙ sym v;
-          leaves = left ∙ ap (overwritten b sizes) done ∙ sym (kept-accepted (groupRefusals b sizes) (b .memory) (overwritten b sizes (written b)) v);
+          leaves = ap with-bits e ∙ ap (overwritten b sizes) done ∙ sym (kept-accepted (groupRefusals b sizes) (b .memory) (overwritten b sizes (written b)) v);
         }

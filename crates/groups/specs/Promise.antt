@@ -67,16 +67,16 @@ bitsBefore c g = bytesOf c g (written (c .handed) .bits)
 abbrev pub before : GroupCall → Lent
 before c = record { bits = written (c .handed) .bits; counts = c .left .counts; rounds = c .left .rounds; firsts = c .left .firsts; work = c .left .work }
 
--- "Demand 2 and the frame promise now speak of these numbers and of the bits before that overwriting": what a batch is promised holds of these, since they are what the
--- batch leaves (`Answered`, and with it `SameFrame` and `Promise`, in the definitions of `batch`). Of the bits that such a call leaves, no more is promised than what
--- follows here, "since equal counts of one frame do not make its group delivered in both".
+-- "Demand 2 and the frame promise now speak of these numbers and of the bits before that overwriting": they are what the batch leaves, so that what is said of
+-- a batch is said of them (`Answered`, and with it `SameFrame` and `Promise`, in the definitions of `batch`). Of the bits that such a call leaves no more is
+-- promised than what follows here, "since equal counts of one frame do not make its group delivered in both".
 abbrev pub Before : GroupCall → Type 0
 Before c = Accepted c → batch.Answered (c .handed) (c .answer) (before c)
 
 -- ---- all or nothing
 
--- A delivered group has the bits of all its frames, and a group that is not has none of them. A group has bytes, and a bit's byte is 0 or 1, so that from any of its
--- bytes, 255 or not, a caller sees which of the two it is.
+-- A delivered group has the bits of all its frames, and a group that is not has none of them. A group has bytes, and a bit's byte is 0 or 1: any of its bytes,
+-- 255 or not, tells a caller which of the two it is.
 pub record AllOrNothing (c : GroupCall) (g : ℕ) : Type 0 where
   pub some : 0 < length (bitsOf c g)
   pub whole : isDelivered c g ≡ true → bitsOf c g ≡ bitsBefore c g

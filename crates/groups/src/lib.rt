@@ -87,7 +87,7 @@ fn deliver_groups(
 
 // ---- the call
 
-// The batch over flat slices with group sizes. Every test comes before the first write, those of the sizes too, so that the batch is not turned down after them.
+// The batch over flat slices with group sizes. Every test comes before the first write, that of the sizes too: the batch is not turned down after it.
 pub fn decode_groups(
     code: u32,
     rule: u32,

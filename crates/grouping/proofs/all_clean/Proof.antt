@@ -39,7 +39,8 @@ loop-again : tie.Need-loop-again Inv-loop μ-loop
 loop-again c =
     let read = c .before in
     let at = read .before .before in
-    (omega arith, at .loop .inv .1 ∙ rw add-one (all-next (at .before .args .clean .now) (at .loop .i) (read .before .loop-test .taken) (not-false _ (c .if1 .left))))
+    let rest = all-next (at .before .args .clean .now) (at .loop .i) (read .before .loop-test .taken) (not-false _ (c .if1 .left)) in
+    (omega arith, at .loop .inv .1 ∙ rw add-one rest)
 
 returns-2 : tie.Need-returns-2 Inv-loop μ-loop
 returns-2 c =

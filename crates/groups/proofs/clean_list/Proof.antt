@@ -16,7 +16,7 @@ use borrow.Author.Needs.{needs}
 use Rattle.groups.proofs.clean_list.Statement.{statement}
 use Rattle.groups.proofs.clean_list.Tie as tie
 
--- whether frame j is clean
+-- whether each frame is clean
 abbrev clean-of : (code : ℕ) → List Float → List ℕ → List ℕ → List ℕ → ℕ → Bool
 clean-of code values pairs counts bits = cleanOf code (framesOf values (pairsOf pairs)) counts bits
 
@@ -29,21 +29,27 @@ abbrev μ-loop : tie.MeasureT-loop
 
 -- ---- places of the walk
 
-abbrev entry : tie.At-loop Inv-loop μ-loop → tie.Start Inv-loop μ-loop
-entry c = c .before .before .before .before .before .before
+abbrev Loop : Type 0
+Loop = tie.At-loop Inv-loop μ-loop
+
+abbrev entry : Loop → tie.Start Inv-loop μ-loop
+entry l = l .before .before .before .before .before .before
 
 -- the list, whole
-abbrev whole : tie.At-loop Inv-loop μ-loop → List Bool
-whole c = let a = entry c .args in cleanFrom (clean-of (a .code) (a .values .now) (a .pairs .now) (a .counts .now) (a .bits .now)) 0 (length (a .clean .now))
+abbrev ok : Loop → ℕ → Bool
+ok l = let a = entry l .args in clean-of (a .code) (a .values .now) (a .pairs .now) (a .counts .now) (a .bits .now)
 
-size : (c : tie.At-loop Inv-loop μ-loop) → length (whole c) ≡ length (entry c .args .clean .now)
-size c = let a = entry c .args in clean-length (clean-of (a .code) (a .values .now) (a .pairs .now) (a .counts .now) (a .bits .now)) 0 (length (a .clean .now))
+abbrev many : Loop → ℕ
+many l = length (entry l .args .clean .now)
 
-place : (c : tie.At-loop Inv-loop μ-loop) → c .loop .j < length (c .loop .clean)
-    → let a = entry c .args in getD (whole c) (c .loop .j) false ≡ clean-of (a .code) (a .values .now) (a .pairs .now) (a .counts .now) (a .bits .now) (c .loop .j)
-place c h =
-    let a = entry c .args in
-    rw zero-add at (clean-at (clean-of (a .code) (a .values .now) (a .pairs .now) (a .counts .now) (a .bits .now)) 0 (length (a .clean .now)) (c .loop .j) (omega (arith, c .loop .inv .1)))
+abbrev whole : Loop → List Bool
+whole l = cleanFrom (ok l) 0 (many l)
+
+size : (l : Loop) → length (whole l) ≡ many l
+size l = clean-length (ok l) 0 (many l)
+
+place : (l : Loop) → l .loop .j < length (l .loop .clean) → ok l (l .loop .j) ≡ getD (whole l) (l .loop .j) false
+place l h = sym (rw zero-add at (clean-at (ok l) 0 (many l) (l .loop .j) (omega (arith, l .loop .inv .1))))
 
 -- ---- the needs
 
@@ -68,10 +74,7 @@ loop-again : tie.Need-loop-again Inv-loop μ-loop
 loop-again c =
     let at = c .before .before in
     let now = at .loop in
-    let a = entry at .args in
-    let n = length (a .clean .now) in
-    let low = c .before .loop-test .taken in
-    let right = c .clean-at .ensures ∙ sym (place at low) in (
+    let right = _∙_ {b = ok at now.j} (c .clean-at .ensures) (place at (c .before .loop-test .taken)) in (
       omega (arith, now.inv.1),
       simp length-set (now.inv.1),
       fill-more (whole at) false now.clean now.j _ (omega (arith, size at, now.inv.1)) (now.inv.1 ∙ sym (size at)) right now.inv.2,

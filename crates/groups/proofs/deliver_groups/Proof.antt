@@ -53,13 +53,13 @@ list-length c = c .clean-list .kept .1 .1 .1 .1 .1 .0 ∙ front (lent c)
 back : (c : tie.After-clean-list) → take (n (lent c)) (filled c) ≡ list c
 back c = take-at (list c) (drop (n (lent c)) array) (n (lent c)) (list-length c)
 
-list-is : (c : tie.After-clean-list)
-    → let a = start (lent c) .args in
-    list c ≡ cleanFrom (cleanOf (a .code) (framesOf (a .values .now) (pairsOf (a .pairs .now))) (a .counts .now) (a .bits .now)) 0 (length (pairsOf (a .pairs .now)))
+-- whether each frame is clean
+abbrev ok : tie.After-clean-list → ℕ → Bool
+ok c = let a = start (lent c) .args in cleanOf (a .code) (framesOf (a .values .now) (pairsOf (a .pairs .now))) (a .counts .now) (a .bits .now)
+
+list-is : (c : tie.After-clean-list) → list c ≡ cleanFrom (ok c) 0 (length (pairsOf (start (lent c) .args .pairs .now)))
 list-is c =
-    let a = start (lent c) .args in
-    let ok = cleanOf (a .code) (framesOf (a .values .now) (pairsOf (a .pairs .now))) (a .counts .now) (a .bits .now) in
-    c .clean-list .ensures ∙ ap (cleanFrom ok 0) (front (lent c) ∙ sym (many (lent c)))
+    _∙_ {b = cleanFrom (ok c) 0 (length (take (n (lent c)) array))} (c .clean-list .ensures) (ap (cleanFrom (ok c) 0) (front (lent c) ∙ sym (many (lent c))))
 
 abbrev made : tie.After-message-bits → tie.After-clean-list
 made c = c .before .before
