@@ -6,7 +6,7 @@
  * Counts. A word's count is how many of the code's parity checks it leaves unsatisfied; 0 says that it is a codeword.
  * Before a frame is trusted, test that its count is 0, that none of its values is NaN (a dead aerial gives NaN
  * everywhere, which decodes to the zero word with count 0) and, for (174,91), that its first 77 bits have the
- * checksum that it carries. A frame that passes all of that is clean; desklink_decode_groups tests it. Beside a
+ * checksum that it carries. A frame that passes all of that is clean, as desklink_frame_clean says. Beside a
  * count, `first` gets the number of the lowest check that it includes, from 0, or DESKLINK_NO_CHECK where it is 0;
  * beside the count of a decode, `rounds` gets how many rounds were run. Neither pointer is null.
  *
@@ -229,6 +229,18 @@ DESKLINK_GUARDED int32_t desklink_decode_groups(uint32_t code, uint32_t rule, ui
     int32_t answer = desklink_decode_groups_unguarded(code, rule, limit, scale, values, values_len, pairs, pairs_len,
                                                       sizes, sizes_len, bits, bits_len, counts, counts_len, rounds,
                                                       rounds_len, firsts, firsts_len, work, work_len);
+    _mm_setcsr(callers);
+    return answer;
+}
+
+/* Whether a frame is clean, 1 or 0. values: its N values; count and bits: what a decode of them gave, K bytes of bits. */
+int32_t desklink_frame_clean_unguarded(uint32_t code, const float *values, size_t values_len, uint16_t count,
+                                       const uint8_t *bits, size_t bits_len);
+DESKLINK_GUARDED int32_t desklink_frame_clean(uint32_t code, const float *values, size_t values_len, uint16_t count,
+                                              const uint8_t *bits, size_t bits_len)
+{
+    uint32_t callers = desklink_default_floats();
+    int32_t answer = desklink_frame_clean_unguarded(code, values, values_len, count, bits, bits_len);
     _mm_setcsr(callers);
     return answer;
 }

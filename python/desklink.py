@@ -109,6 +109,8 @@ class Frame(typing.NamedTuple):
     """How many rounds were run."""
     first_check: typing.Optional[int]
     """The lowest check that the chosen word leaves unsatisfied, or None where the count is 0."""
+    clean: bool
+    """Whether the frame can be trusted: its count is 0, none of its values is NaN and, for (174,91), its checksum is right."""
 
 
 # ---- buffers, read and written where they lie
@@ -290,7 +292,7 @@ def bytes_of_values(values, positive_is_one=False):
 def decode_batch(code, values, pairs, rule=Rule.DEFAULT, limit=20, scale=0.0, groups=(), stored=False):
     """The frames that pairs of offset and length name in `values`, at most 24 of them, as a list of Frame.
 
-    With `groups`, a list of group sizes, a frame of a group that is not delivered has bits of None. `stored` reads a batch
+    With `groups`, a list of group sizes, a frame of a group that is not delivered has bits of None and is not called clean. `stored` reads a batch
     that was stored when rule 3 stood for rule 0.
     """
     k = Code(code).k if 0 <= code <= 3 else 0
@@ -309,11 +311,17 @@ def decode_batch(code, values, pairs, rule=Rule.DEFAULT, limit=20, scale=0.0, gr
             _answer(_library.desklink_decode_stored_batch(*head, *named, *out))
         else:
             _answer(_library.desklink_decode_batch(*head, *named, *out))
-    raw = bytes(bits)
-    own = [raw[j * k : (j + 1) * k] for j in range(len(pairs))]
-    return [
-        Frame(None if groups and own[j][0] == 255 else own[j], counts[j], rounds[j], _first(firsts[j])) for j in range(len(pairs))
-    ]
+        raw = bytes(bits)
+        frames = []
+        for j, (offset, _) in enumerate(pairs):
+            own = raw[j * k : (j + 1) * k]
+            if groups and own[0] == 255:
+                frames.append(Frame(None, counts[j], rounds[j], _first(firsts[j]), False))
+                continue
+            start = ctypes.c_void_p(lent.pointer.value + 4 * offset)
+            clean = _library.desklink_frame_clean(head[0], start, ctypes.c_size_t(Code(code).n), counts[j], own, ctypes.c_size_t(k))
+            frames.append(Frame(own, counts[j], rounds[j], _first(firsts[j]), _answer(clean) == 1))
+    return frames
 
 
 def decode_frames(code, frames, rule=Rule.DEFAULT, limit=20, scale=0.0):

@@ -29,6 +29,7 @@ class Decoding(unittest.TestCase):
                 values[at] = -values[at]
                 (frame,) = desklink.decode_frames(code, [values])
                 self.assertEqual((frame.bits, frame.count, frame.first_check), (message, 0, None))
+                self.assertEqual(frame.clean, code != Code.FT8)  # these (174,91) messages carry no checksum
                 self.assertGreater(frame.rounds, 0)
 
     def test_batch_with_gaps(self):
@@ -72,6 +73,14 @@ class Decoding(unittest.TestCase):
             with self.assertRaises(Refused) as caught:
                 call()
             self.assertEqual(caught.exception.number, number)
+
+
+    def test_clean(self):
+        block = desklink.ft8_add_crc(bytes(range(10)))
+        word = desklink.unpack(desklink.ldpc_encode(block), 174)
+        good, dead = values_of(word), array.array("f", [float("nan")] * 174)
+        frames = desklink.decode_frames(Code.FT8, [good, dead])
+        self.assertEqual([(frame.count, frame.clean) for frame in frames], [(0, True), (0, False)])
 
 
 class Buffers(unittest.TestCase):

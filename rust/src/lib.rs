@@ -16,12 +16,14 @@ use std::cell::RefCell;
 
 mod batch;
 mod floats;
+mod frames;
 mod moves;
 mod refusal;
 pub mod slices;
 mod staircase;
 
 pub use batch::{Batch, Code};
+pub use frames::{decode_frames, Frame};
 pub use moves::Move;
 pub use refusal::Refusal;
 pub use staircase::{DecodeRule, Ldpc, LdpcCode};

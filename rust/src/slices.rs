@@ -110,6 +110,7 @@ mod ffi {
             work: *mut f32,
             work_len: usize,
         ) -> i32;
+        pub fn desklink_frame_clean_unguarded(code: u32, values: *const f32, values_len: usize, count: u16, bits: *const u8, bits_len: usize) -> i32;
         pub fn desklink_fill_erasures(code: u32, word: *mut u8, word_len: usize, places: *mut u16, places_len: usize) -> i32;
         pub fn desklink_values_of_bytes_unguarded(bytes: *const i8, bytes_len: usize, positive_is_one: u32, values: *mut f32, values_len: usize) -> i32;
         pub fn desklink_bytes_of_values_unguarded(values: *const f32, values_len: usize, positive_is_one: u32, bytes: *mut i8, bytes_len: usize) -> i32;
@@ -146,7 +147,7 @@ pub struct Decoded {
 }
 
 /// The check that a number of the library names.
-fn check(number: u16) -> Option<u16> {
+pub(crate) fn check(number: u16) -> Option<u16> {
     Some(number).filter(|&c| c != NO_CHECK)
 }
 
@@ -345,6 +346,19 @@ batch_call! {
     /// The same with groups: `sizes` has the number of frames of each group in turn, in place order. A group whose frames are all clean has its bits;
     /// all bit bytes of any other are 255. With no sizes this is [`decode_batch`].
     decode_groups desklink_decode_groups_unguarded sizes
+}
+
+/// Whether a frame is clean, with the count and the K bits that a decode of its N values gave: its count is 0, none of its values is NaN and, for
+/// code 3, its bits carry the checksum of their first 77. A count of 0 alone is not clean: a dead aerial gives NaN everywhere.
+///
+/// ```
+/// assert_eq!(desklink::slices::frame_clean(3, &[1.0; 174], 0, &[0; 91]), Ok(true));
+/// assert_eq!(desklink::slices::frame_clean(3, &[f32::NAN; 174], 0, &[0; 91]), Ok(false));
+/// ```
+pub fn frame_clean(code: u32, values: &[f32], count: u16, bits: &[u8]) -> Result<bool, Refusal> {
+    let _floats = DefaultFloats::set();
+    let said = unsafe { ffi::desklink_frame_clean_unguarded(code, values.as_ptr(), values.len(), count, bits.as_ptr(), bits.len()) };
+    answer(said).map(|clean| clean == 1)
 }
 
 /// Sets the unknown bits (2) of a recorded word of N bytes that the checks of code 0 to 3 decide, one after another, and lists their positions at

@@ -1,2 +1,3 @@
 pub mod CleanFrames
 pub mod Limits
+pub mod Calls

@@ -27,6 +27,7 @@ ghost use Rattle.batch.specs.Calls as batch·calls;
 ghost use Rattle.eighths.specs.Calls.{bytesRefusals, valuesRefusals, valuesOf, bytesOf};
 ghost use Rattle.erasure.specs.Filling.{filledWord, filledPlaces, listed};
 ghost use Rattle.erasure.specs.Calls.{checksBy, erasureRefusals};
+ghost use Rattle.clean_frames.specs.Calls.{frameRefusals, cleanNumber};
 ghost use Rattle.desklink.specs.Coded.{coded, codedUnit, lent, Counts, Decodes};
 ghost use Rattle.desklink.specs.Calls.{DecodeCall, BatchCall, GroupsCall};
 
@@ -81,7 +82,8 @@ fn counting_code(answer: Counting, first: &mut u16) -> i32
 
 // A decode's count; its rounds run and its first check are written.
 fn decoding_code(answer: Decoding, rounds: &mut u16, first: &mut u16) -> i32
-    ensures { λ n. ⌜ Decodes (decoders·calls.decodingOf answer) n (lent (now (rounds .entry)) (now (rounds .exit))) (lent (now (first .entry)) (now (first .exit))) ⌝ }
+    ensures { λ n. ⌜ Decodes (decoders·calls.decodingOf answer) n (lent (now (rounds .entry)) (now (rounds .exit)))
+        (lent (now (first .entry)) (now (first .exit))) ⌝ }
 {
     match answer {
         Decoding::Decoded(told) => {
@@ -106,7 +108,8 @@ pub extern "C" fn desklink_ft8_crc14(message: &[u8], num_bits: usize) -> i32
 #[no_mangle]
 pub extern "C" fn desklink_ft8_add_crc(payload: &[u8], a91: &mut [u8]) -> i32
     ensures { λ n. ⌜ n ≡ codedUnit (judged (crc·calls.addRefusals (now (payload .entry)) (now (a91 .entry))) tt) ⌝ }
-    ensures { λ _. ⌜ now (a91 .exit) ≡ kept (crc·calls.addRefusals (now (payload .entry)) (now (a91 .entry))) (now (a91 .entry)) (block (now (payload .entry))) ⌝ }
+    ensures { λ _. ⌜ now (a91 .exit)
+        ≡ kept (crc·calls.addRefusals (now (payload .entry)) (now (a91 .entry))) (now (a91 .entry)) (block (now (payload .entry))) ⌝ }
 {
     status_code(crc::ft8_add_crc(payload, a91))
 }
@@ -123,7 +126,8 @@ pub extern "C" fn desklink_ft8_extract_crc(a91: &[u8]) -> i32
 #[no_mangle]
 pub extern "C" fn desklink_ldpc_encode(message: &[u8], codeword: &mut [u8]) -> i32
     ensures { λ n. ⌜ n ≡ codedUnit (judged (ldpc·calls.encodeRefusals (now (message .entry)) (now (codeword .entry))) tt) ⌝ }
-    ensures { λ _. ⌜ now (codeword .exit) ≡ kept (ldpc·calls.encodeRefusals (now (message .entry)) (now (codeword .entry))) (now (codeword .entry)) (codewordOf (now (message .entry))) ⌝ }
+    ensures { λ _. ⌜ now (codeword .exit)
+        ≡ kept (ldpc·calls.encodeRefusals (now (message .entry)) (now (codeword .entry))) (now (codeword .entry)) (codewordOf (now (message .entry))) ⌝ }
 {
     status_code(ldpc::ldpc_encode(message, codeword))
 }
@@ -161,7 +165,9 @@ pub extern "C" fn desklink_ldpc_decode_soft_unguarded(
 #[no_mangle]
 pub extern "C" fn desklink_encode(code: u32, message: &[u8], codeword: &mut [u8]) -> i32
     ensures { λ n. ⌜ n ≡ codedUnit (judged (staircase·calls.encodeRefusals code (now (message .entry)) (now (codeword .entry))) tt) ⌝ }
-    ensures { λ _. ⌜ now (codeword .exit) ≡ kept (staircase·calls.encodeRefusals code (now (message .entry)) (now (codeword .entry))) (now (codeword .entry)) (staircase·calls.encodedBy code (now (message .entry))) ⌝ }
+    ensures { λ _. ⌜ now (codeword .exit)
+        ≡ kept (staircase·calls.encodeRefusals code (now (message .entry)) (now (codeword .entry))) (now (codeword .entry))
+        (staircase·calls.encodedBy code (now (message .entry))) ⌝ }
 {
     status_code(ldpc_codes::encode(code, message, codeword))
 }
@@ -330,13 +336,34 @@ pub extern "C" fn desklink_decode_groups_unguarded(
     ))
 }
 
+// ---- whether a frame is clean
+
+// 1 where it is, and 0 where it is not.
+#[no_mangle]
+pub extern "C" fn desklink_frame_clean_unguarded(
+    code: u32,
+    values: &[f32],
+    count: u16,
+    bits: &[u8],
+) -> i32
+    ensures { λ n. ⌜ n
+        ≡ coded (judged (frameRefusals code (now (values .entry)) (now (bits .entry)))
+        (cleanNumber code (now (values .entry)) count (now (bits .entry)))) ⌝ }
+{
+    answer_code(clean_frames::frame_clean(code, values, count, bits))
+}
+
 // ---- erasures
 
 #[no_mangle]
 pub extern "C" fn desklink_fill_erasures(code: u32, word: &mut [u8], places: &mut [u16]) -> i32
-    ensures { λ n. ⌜ n ≡ coded (judged (erasureRefusals code (now (word .entry)) (now (places .entry))) (length (filledPlaces (checksBy code) (now (word .entry))))) ⌝ }
-    ensures { λ _. ⌜ now (word .exit) ≡ kept (erasureRefusals code (now (word .entry)) (now (places .entry))) (now (word .entry)) (filledWord (checksBy code) (now (word .entry))) ⌝ }
-    ensures { λ _. ⌜ now (places .exit) ≡ kept (erasureRefusals code (now (word .entry)) (now (places .entry))) (now (places .entry)) (listed (filledPlaces (checksBy code) (now (word .entry))) (now (places .entry))) ⌝ }
+    ensures { λ n. ⌜ n
+        ≡ coded (judged (erasureRefusals code (now (word .entry)) (now (places .entry))) (length (filledPlaces (checksBy code) (now (word .entry))))) ⌝ }
+    ensures { λ _. ⌜ now (word .exit)
+        ≡ kept (erasureRefusals code (now (word .entry)) (now (places .entry))) (now (word .entry)) (filledWord (checksBy code) (now (word .entry))) ⌝ }
+    ensures { λ _. ⌜ now (places .exit)
+        ≡ kept (erasureRefusals code (now (word .entry)) (now (places .entry))) (now (places .entry))
+        (listed (filledPlaces (checksBy code) (now (word .entry))) (now (places .entry))) ⌝ }
 {
     answer_code(erasure::fill_erasures(code, word, places))
 }
@@ -350,7 +377,9 @@ pub extern "C" fn desklink_values_of_bytes_unguarded(
     values: &mut [f32],
 ) -> i32
     ensures { λ n. ⌜ n ≡ codedUnit (judged (bytesRefusals (now (bytes .entry)) (now (values .entry))) tt) ⌝ }
-    ensures { λ _. ⌜ now (values .exit) ≡ kept (bytesRefusals (now (bytes .entry)) (now (values .entry))) (now (values .entry)) (valuesOf (not (eqb «positive_is_one» 0)) (now (bytes .entry))) ⌝ }
+    ensures { λ _. ⌜ now (values .exit)
+        ≡ kept (bytesRefusals (now (bytes .entry)) (now (values .entry))) (now (values .entry))
+        (valuesOf (not (eqb «positive_is_one» 0)) (now (bytes .entry))) ⌝ }
 {
     status_code(eighths::values_of_bytes(bytes, positive_is_one != 0, values))
 }
@@ -362,7 +391,9 @@ pub extern "C" fn desklink_bytes_of_values_unguarded(
     bytes: &mut [i8],
 ) -> i32
     ensures { λ n. ⌜ n ≡ codedUnit (judged (valuesRefusals (now (values .entry)) (now (bytes .entry))) tt) ⌝ }
-    ensures { λ _. ⌜ now (bytes .exit) ≡ kept (valuesRefusals (now (values .entry)) (now (bytes .entry))) (now (bytes .entry)) (bytesOf (not (eqb «positive_is_one» 0)) (now (values .entry))) ⌝ }
+    ensures { λ _. ⌜ now (bytes .exit)
+        ≡ kept (valuesRefusals (now (values .entry)) (now (bytes .entry))) (now (bytes .entry))
+        (bytesOf (not (eqb «positive_is_one» 0)) (now (values .entry))) ⌝ }
 {
     status_code(eighths::bytes_of_values(values, positive_is_one != 0, bytes))
 }
