@@ -1,13 +1,13 @@
 -- The frames of a batch: one frame's answer by its code, and the loop over the frames. Assumes nothing.
-use mathlib.Core.Path.{_≡_, refl, sym, ap, _∙_}
+use mathlib.Core.Path.{_≡_, refl, sym, ap, subst, _∙_}
 use mathlib.Core.List.{List, _∷_, _++_, map, append-assoc, append-nil}
 use Prim.Native.Nat.{ℕ, zero, suc, _+_, _*_, _-_, _<_, _≤_}
-use native.Mathlib.Nat.{mul-le-mul, suc-mul}
+use native.Mathlib.Nat.{mul-le-mul, suc-mul, zero-mul}
 use native.Mathlib.Numerals.{add-one}
 use native.Mathlib.Omega.{arith}
 use lib.Ieee.{Float}
-use lib.ListN.{length, getD, take, drop, set, length-set, length-append, length-map, length-take, length-drop, replicate, length-replicate, drop-of-length-le, List·getD-map}
-use lib.Seq.{take-at, drop-at, drop-cons, take-all, length-take-le}
+use lib.ListN.{length, getD, take, drop, set, length-set, length-append, length-map, length-drop, replicate, length-replicate, drop-of-length-le, List·getD-map}
+use lib.Seq.{take-at, drop-at, drop-drop, drop-cons, take-all, length-take-le}
 use Rattle.softmath.specs.declared.DecodeRule.{DecodeRule}
 use Rattle.tanner.specs.Flat.{joined}
 use Rattle.belief.specs.Chosen.{Chose}
@@ -17,9 +17,10 @@ use Rattle.softmath.specs.Single.{zero32}
 use Rattle.staircase.specs.Codes.{codeOf}
 use Rattle.decoders.specs.Decodes.{ruleOf, staircaseDecode, ft8Decode}
 use Rattle.belief.specs.declared.Decoded.{Decoded}
-use Rattle.batch.specs.Codes.{decodeBy, decodeOf}
-use Rattle.batch.specs.Pairs.{Pair, pairsOf, frameOf, framesOf, AllWithin}
-use Rattle.batch.specs.Calls.{Lent, lent}
+use Rattle.batch.specs.Codes.{sizeN, sizeK, decodeBy, decodeOf}
+use Rattle.batch.specs.Pairs.{Pair, pair, pairsOf, frameOf, framesOf, AllWithin}
+use Rattle.batch.specs.Calls.{Lent, lent, Batch, frames, frameDecode, frameBits, frameCount, frameRounds, frameFirst, written}
+use Rattle.batch.specs.Steps.{Fitting, PlaceFits, placed}
 use Rattle.batch.proofs.Pairs.{pairs-length, pair-at, within-at}
 
 -- ---- one frame
@@ -58,16 +59,25 @@ part-size l at k h =
     let e : at + k - at ≡ k = omega arith in
     rw e (length-take-le k (drop at l) (simp length-drop (omega arith)))
 
--- a part written behind what is there already
-pub written-more : (bits part own goal rest : List ℕ) (at k : ℕ) → at + k ≤ length bits → length part ≡ k → part ≡ own → take at bits ++ (own ++ rest) ≡ goal
-    → take (at + k) (take at bits ++ (part ++ drop (at + k - at) (drop at bits))) ++ rest ≡ goal
-written-more bits part own goal rest at k h l o e =
-    let d = drop (at + k - at) (drop at bits) in
-    let a : length (take at bits ++ part) ≡ at + k = simp length-append (omega (arith, length-take-le at bits (omega arith))) in
-    rw (← append-assoc (take at bits) part d, take-at (take at bits ++ part) d (at + k) a, append-assoc (take at bits) part rest, o) e
+-- a part written behind what is there already, where all stays as long as it was
+module _ {A : Type 0} (bits own : List A) (at k : ℕ) (h : at + k ≤ length bits) (same : length (take at bits ++ (own ++ drop (at + k) bits)) ≡ length bits) where
+  own-size : length own ≡ k
+  own-size =
+      let all = length-append (take at bits) (own ++ drop (at + k) bits) in
+      omega (arith, length-take-le at bits (omega arith), length-append own (drop (at + k) bits), length-drop (at + k) bits)
 
-pub written-length : (bits part : List ℕ) (at k : ℕ) → at + k ≤ length bits → length part ≡ k → length (take at bits ++ (part ++ drop (at + k - at) (drop at bits))) ≡ length bits
-written-length bits part at k h l = simp (length-append, length-drop, length-take) (omega arith)
+  pub written-more : (goal rest : List A) → take at bits ++ (own ++ rest) ≡ goal → take (at + k) (take at bits ++ (own ++ drop (at + k) bits)) ++ rest ≡ goal
+  written-more goal rest e =
+      let d = drop (at + k) bits in
+      let a : length (take at bits ++ own) ≡ at + k = simp length-append (omega (arith, length-take-le at bits (omega arith), own-size)) in
+      rw (← append-assoc (take at bits) own d, take-at (take at bits ++ own) d (at + k) a, append-assoc (take at bits) own rest) e
+
+-- the part of k places from j times k on, as the loan of it comes back
+pub part-placed : {A : Type 0} (l : List A) (j : ℕ) {k size : ℕ} {part own : List A} → k ≡ size → part ≡ own
+    → take (j * k) l ++ (part ++ drop (j * k + k - j * k) (drop (j * k) l)) ≡ take (j * size) l ++ (own ++ drop (j * size + size) l)
+part-placed l j {size = size} e o =
+    let s : j * size + size - j * size ≡ size = omega arith in
+    rw (e, o, s, drop-drop size (j * size) l)
 
 -- one number a frame, written as far as place j
 column-length : (f : List Float → ℕ) (values : List Float) (ps : List Pair) → length (map f (framesOf values ps)) ≡ length ps
@@ -87,53 +97,69 @@ column-done f values ps j out h c =
 
 -- ---- the frame of pair j
 
-module _ (values : List Float) (pairs : List ℕ) (n j : ℕ) (w : AllWithin n (length values) (pairsOf pairs)) (h : j < length (pairsOf pairs)) where
-  abbrev none-pair : Pair
-  none-pair = record { offset = 0; size = 0 }
+abbrev pub none-pair : Pair
+none-pair = pair 0 0
 
+abbrev pub offsetAt : List Pair → ℕ → ℕ
+offsetAt ps j = getD ps j none-pair .offset
+
+module _ (values : List Float) (ps : List Pair) (n j : ℕ) (w : AllWithin n (length values) ps) (h : j < length ps) where
+  abbrev own : List Float
+  own = frameOf values (pair (offsetAt ps j) n)
+
+  pub offset-inside : offsetAt ps j + n ≤ length values
+  offset-inside = let p = within-at w j none-pair h in omega (arith, p .0, p .1)
+
+  own-is : frameOf values (getD ps j none-pair) ≡ own
+  own-is = ap (λ (m : ℕ). frameOf values (pair (offsetAt ps j) m)) (within-at w j none-pair h .0)
+
+  pub own-next : drop j (framesOf values ps) ≡ own ∷ drop (j + 1) (framesOf values ps)
+  own-next =
+      rw (add-one, ← own-is)
+      (drop-cons (framesOf values ps) j (frameOf values none-pair) (simp length-map h)
+      ∙ ap (λ (f : List Float). f ∷ drop (suc j) (framesOf values ps)) (List·getD-map (frameOf values) ps j none-pair))
+
+  -- one number more, of the frame at place j
+  column-more : (f : List Float → ℕ) (out : List ℕ) → Column f values ps j out → Column f values ps (j + 1) (set out j (f own))
+  column-more f out c =
+      let all = column-length f values ps in
+      let beyond = frameOf values none-pair in
+      let here : f own ≡ getD (map f (framesOf values ps)) j (f beyond) =
+      sym (List·getD-map f (framesOf values ps) j beyond ∙ ap f (List·getD-map (frameOf values) ps j none-pair ∙ own-is))
+      in
+      record {
+        size = length-set out j (f own) ∙ c .size;
+        front = fill-more (map f (framesOf values ps)) (f beyond) out j (f own) (omega (arith, all)) (c .size ∙ sym all) here (c .front);
+      }
+
+  -- the bits of the frames from j on
+  bits-next : (f : List Float → List ℕ) → joined (map f (drop j (framesOf values ps))) ≡ f own ++ joined (map f (drop (j + 1) (framesOf values ps)))
+  unfolding joined
+  bits-next f = rw own-next
+
+-- the values from an offset on, as a part of the slice
+pub part-frame : (values : List Float) (offset : ℕ) {n size : ℕ} → n ≡ size → take (offset + n - offset) (drop offset values) ≡ frameOf values (pair offset size)
+unfolding frameOf
+part-frame values offset {size = size} e =
+    let s : offset + size - offset ≡ size = omega arith in
+    rw (e, s)
+
+-- of pairs in a flat list
+module _ (values : List Float) (pairs : List ℕ) (n j : ℕ) (w : AllWithin n (length values) (pairsOf pairs)) (h : j < length (pairsOf pairs)) where
   abbrev offset : ℕ
   offset = getD pairs (j * 2) 0
 
   pub pair-inside : suc (j * 2) < length pairs
   pair-inside = omega (arith, pairs-length pairs)
 
-  named : (getD (pairsOf pairs) j none-pair .size ≡ n) × (getD (pairsOf pairs) j none-pair .offset ≡ offset)
-  named = (within-at w j none-pair h .0, ap (λ (p : Pair). p .offset) (pair-at pairs j none-pair h))
+  pub offset-is : offsetAt (pairsOf pairs) j ≡ offset
+  offset-is = ap (λ (p : Pair). p .offset) (pair-at pairs j none-pair h)
 
   pub frame-inside : offset + n ≤ length values
-  frame-inside = let p = within-at w j none-pair h in omega (arith, named, p .1)
-
-  frame-is : frameOf values (getD (pairsOf pairs) j none-pair) ≡ take (offset + n - offset) (drop offset values)
-  unfolding frameOf
-  frame-is =
-      let k : offset + n - offset ≡ n = omega arith in
-      rw (k, named .0, named .1)
+  frame-inside = omega (arith, offset-is, offset-inside values (pairsOf pairs) n j w h)
 
   pub frames-next : drop j (framesOf values (pairsOf pairs)) ≡ take (offset + n - offset) (drop offset values) ∷ drop (j + 1) (framesOf values (pairsOf pairs))
-  frames-next =
-      rw (add-one, ← frame-is)
-      (drop-cons (framesOf values (pairsOf pairs)) j (frameOf values none-pair) (simp length-map h)
-      ∙ ap (λ (f : List Float). f ∷ drop (suc j) (framesOf values (pairsOf pairs))) (List·getD-map (frameOf values) (pairsOf pairs) j none-pair))
-
-  -- one number more, of the frame at place j
-  pub column-more : (f : List Float → ℕ) (out : List ℕ) (v : ℕ) → v ≡ f (take (offset + n - offset) (drop offset values))
-      → Column f values (pairsOf pairs) j out → Column f values (pairsOf pairs) (j + 1) (set out j v)
-  column-more f out v e c =
-      let all = column-length f values (pairsOf pairs) in
-      let beyond = frameOf values none-pair in
-      let here : f (take (offset + n - offset) (drop offset values)) ≡ getD (map f (framesOf values (pairsOf pairs))) j (f beyond) =
-      sym (List·getD-map f (framesOf values (pairsOf pairs)) j beyond ∙ ap f (List·getD-map (frameOf values) (pairsOf pairs) j none-pair ∙ frame-is))
-      in
-      record {
-        size = length-set out j v ∙ c .size;
-        front = fill-more (map f (framesOf values (pairsOf pairs))) (f beyond) out j v (omega (arith, all)) (c .size ∙ sym all) (e ∙ here) (c .front);
-      }
-
-  -- the bits of the frames from j on
-  pub bits-next : (f : List Float → List ℕ) → joined (map f (drop j (framesOf values (pairsOf pairs))))
-      ≡ f (take (offset + n - offset) (drop offset values)) ++ joined (map f (drop (j + 1) (framesOf values (pairsOf pairs))))
-  unfolding joined
-  bits-next f = rw frames-next
+  frames-next = rw (part-frame values offset {n = n} refl, ← offset-is) (own-next values (pairsOf pairs) n j w h)
 
 -- after the last frame
 pub bits-end : (f : List Float → List ℕ) (frames : List (List Float)) (j : ℕ) (front goal : List ℕ) → length frames ≤ j → front ++ joined (map f (drop j frames)) ≡ goal → front ≡ goal
@@ -153,13 +179,89 @@ unfolding cleared
 cleared-length v h = simp (length-append, length-drop, length-replicate) (omega arith)
 
 -- a work area cleared twice
-pub cleared-again : (v w : List Float) → 3070 ≤ length v → w ≡ cleared v → cleared w ≡ w
+pub cleared-again : (v : List Float) → cleared (cleared v) ≡ cleared v
 unfolding cleared
-cleared-again v w h e =
+cleared-again v =
     let z = replicate 3070 zero32 in
-    let d : drop 3070 (z ++ drop 3070 v) ≡ drop 3070 v = drop-at z (drop 3070 v) 3070 (length-replicate 3070 zero32) in
-    rw e (ap (λ (l : List Float). z ++ l) d)
+    ap (λ (l : List Float). z ++ l) (drop-at z (drop 3070 v) 3070 (length-replicate 3070 zero32))
 
 -- the lent memory, part by part
 pub lent-are : {b c r f b' c' r' f' : List ℕ} {w w' : List Float} → b ≡ b' → c ≡ c' → r ≡ r' → f ≡ f' → w ≡ w' → lent b c r f w ≡ lent b' c' r' f' w'
 lent-are b c r f w = cc
+
+-- ---- a batch whose first j frames are decoded
+
+pub record Going (b : Batch) (j : ℕ) (l : Lent) : Type 0 where
+  pub upto : j ≤ length (b .pairs)
+  pub long : length (l .bits) ≡ length (b .memory .bits)
+  pub front : take (j * sizeK (b .code)) (l .bits) ++ joined (map (frameBits b) (drop j (frames b))) ≡ joined (map (frameBits b) (frames b))
+  pub counts : Column (frameCount b) (b .values) (b .pairs) j (l .counts)
+  pub rounds : Column (frameRounds b) (b .values) (b .pairs) j (l .rounds)
+  pub firsts : Column (frameFirst b) (b .values) (b .pairs) j (l .firsts)
+  pub area : cleared (l .work) ≡ cleared (b .memory .work)
+  pub wide : length (l .work) ≡ length (b .memory .work)
+
+module _ {b : Batch} (fit : Fitting b) where
+  abbrev m : Lent
+  m = b .memory
+
+  abbrev k : ℕ
+  k = sizeK (b .code)
+
+  -- before the first frame
+  pub going-none : Going b 0 m
+  going-none = record {
+    upto = omega arith;
+    long = refl;
+    front = rw zero-mul refl;
+    counts = column-none _ (b .values) (b .pairs) (m .counts) (fit .counts);
+    rounds = column-none _ (b .values) (b .pairs) (m .rounds) (fit .rounds);
+    firsts = column-none _ (b .values) (b .pairs) (m .firsts) (fit .firsts);
+    area = refl;
+    wide = refl;
+  }
+
+  module _ {j : ℕ} {l : Lent} (g : Going b j l) where
+    module _ (h : j < length (b .pairs)) where
+      -- there is a frame at place j, and a place for it
+      pub going-fits : PlaceFits (b .code) (offsetAt (b .pairs) j) j (b .values) l
+      going-fits = record {
+        known = fit .known;
+        inside = offset-inside (b .values) (b .pairs) (sizeN (b .code)) j (fit .inside) h;
+        bits = omega (arith, g .long, fit .bits, place-fits j (length (b .pairs)) k h);
+        counts = omega (arith, g .counts .size);
+        rounds = omega (arith, g .rounds .size);
+        firsts = omega (arith, g .firsts .size);
+        area = omega (arith, g .wide, fit .area);
+      }
+
+      pub going-more : {l′ : Lent} → l′ ≡ placed (frameDecode b (own (b .values) (b .pairs) (sizeN (b .code)) j (fit .inside) h)) (b .limit) k j l
+          → length (l′ .bits) ≡ length (l .bits) → Going b (j + 1) l′
+      unfolding placed
+      going-more {l′} e same =
+          let f = own (b .values) (b .pairs) (sizeN (b .code)) j (fit .inside) h in
+          let more = column-more (b .values) (b .pairs) (sizeN (b .code)) j (fit .inside) h in
+          subst (Going b (j + 1)) (sym e) (record {
+            upto = omega arith;
+            long = sym (ap (λ (x : Lent). length (x .bits)) e) ∙ same ∙ g .long;
+            front =
+                let turn : (j + 1) * k ≡ j * k + k = rw add-one (suc-mul j k) in
+                rw turn
+                (written-more (l .bits) (frameBits b f) (j * k) k (going-fits .bits) (sym (ap (λ (x : Lent). length (x .bits)) e) ∙ same) _ _
+                (rw (bits-next (b .values) (b .pairs) (sizeN (b .code)) j (fit .inside) h (frameBits b)) at (g .front)));
+            counts = more (frameCount b) (l .counts) (g .counts);
+            rounds = more (frameRounds b) (l .rounds) (g .rounds);
+            firsts = more (frameFirst b) (l .firsts) (g .firsts);
+            area = cleared-again (l .work) ∙ g .area;
+            wide = cleared-length (l .work) (going-fits .area) ∙ g .wide;
+          })
+
+    -- after the last frame, the work area cleared
+    pub going-done : length (b .pairs) ≤ j → {work : List Float} → work ≡ cleared (l .work) → lent (l .bits) (l .counts) (l .rounds) (l .firsts) work ≡ written b
+    unfolding written
+    going-done h e =
+        let all : j ≡ length (b .pairs) = omega (arith, g .upto) in
+        let many : length (frames b) ≤ j = simp length-map h in
+        let end : j * k ≡ length (b .pairs) * k = ap (λ (i : ℕ). i * k) all in
+        lent-are (bits-whole (l .bits) _ (j * k) (omega (arith, end, g .long, fit .bits)) (bits-end (frameBits b) (frames b) j _ _ many (g .front)))
+        (column-done _ _ _ _ _ h (g .counts)) (column-done _ _ _ _ _ h (g .rounds)) (column-done _ _ _ _ _ h (g .firsts)) (e ∙ g .area)

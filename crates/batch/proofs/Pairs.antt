@@ -1,6 +1,6 @@
 -- The pairs of a flat list, and what their tests find: by induction, two numbers a step. Assumes nothing.
-use mathlib.Core.Path.{_≡_, refl, sym, _∙_}
-use mathlib.Core.Bool.{not}
+use mathlib.Core.Path.{_≡_, refl, sym}
+use mathlib.Core.Bool.{Bool, true, false, not, cond}
 use mathlib.Core.List.{List, [], _∷_, _++_}
 use Prim.Native.Nat.{ℕ, zero, suc, _+_, _*_, _/_, _<_, _≤_}
 use native.Mathlib.Numerals.{add-one}
@@ -9,10 +9,11 @@ use borrow.Author.Tests.{eqb-true, ltb-false, not-false}
 use lib.Dec.{eqb, ltb}
 use lib.ListN.{length, getD, drop, length-drop}
 use lib.Seq.{drop-cons}
-use Rattle.refusal.specs.Outcome.{Outcome, accepted, refused, Condition, judged, _when_}
-use Rattle.refusal.proofs.Judged.{verdict, nothing, passed-by, judged-past, judged-front}
-use Rattle.batch.specs.Pairs.{Pair, pairsOf, AllWithin, none, more}
-use Rattle.batch.specs.Calls.{pairRefusals}
+use Rattle.refusal.specs.Outcome.{Outcome, accepted, refused, Condition, judged}
+use Rattle.refusal.proofs.Judged.{verdict, nothing, passed-by, judged-accepted, judged-refused}
+use Rattle.batch.specs.Pairs.{Pair, pair, pairsOf, AllWithin, none, more}
+use Rattle.batch.specs.Calls.{pairTests, pairRefusals}
+use Rattle.batch.specs.Steps.{nextSeen, seenAll}
 
 -- ---- the pairs
 
@@ -22,7 +23,7 @@ pairs-length [] = refl
 pairs-length (o ∷ []) = refl
 pairs-length (o ∷ n ∷ ns) = omega (arith, pairs-length ns)
 
-pub pair-at : (ns : List ℕ) (j : ℕ) (d : Pair) → j < length (pairsOf ns) → getD (pairsOf ns) j d ≡ record { offset = getD ns (j * 2) 0; size = getD ns (suc (j * 2)) 0 }
+pub pair-at : (ns : List ℕ) (j : ℕ) (d : Pair) → j < length (pairsOf ns) → getD (pairsOf ns) j d ≡ pair (getD ns (j * 2) 0) (getD ns (suc (j * 2)) 0)
 unfolding pairsOf
 pair-at [] j d h = absurd (omega arith)
 pair-at (o ∷ []) j d h = absurd (omega arith)
@@ -41,7 +42,7 @@ pub pairs-done : (ns : List ℕ) (i : ℕ) → length ns ≤ i + 1 → pairsOf (
 pairs-done ns i h = short-none (drop i ns) (simp length-drop (omega arith))
 
 pub pairs-next : (ns : List ℕ) (i : ℕ) → i + 1 < length ns
-    → pairsOf (drop i ns) ≡ record { offset = getD ns i 0; size = getD ns (i + 1) 0 } ∷ pairsOf (drop (i + 2) ns)
+    → pairsOf (drop i ns) ≡ pair (getD ns i 0) (getD ns (i + 1) 0) ∷ pairsOf (drop (i + 2) ns)
 unfolding pairsOf
 pairs-next ns i h =
     let a : drop i ns ≡ getD ns i 0 ∷ drop (suc i) ns = drop-cons ns i 0 (omega arith) in
@@ -51,26 +52,53 @@ pairs-next ns i h =
 
 -- ---- the test of the pairs, pair by pair
 
-abbrev pub pairTests : ℕ → ℕ → ℕ → ℕ → ℕ → List Condition
-pairTests n values end offset size = (10 when not (eqb size n)) ∷ (11 when ltb offset end) ∷ (12 when ltb values (offset + size)) ∷ []
+-- one pair more, after a good one
+module _ (n values : ℕ) {s : Outcome ℕ} {end : ℕ} (e : s ≡ accepted end) (p : Pair) where
+  pub pair-bad : (k : ℕ) → verdict (pairTests n values end p) ≡ refused k → refused k ≡ nextSeen n values s p
+  unfolding nextSeen
+  pair-bad k v = rw e (sym (judged-refused (pairTests n values end p) (p .offset + p .size) k v))
 
-module _ (n values end : ℕ) (ns : List ℕ) (i : ℕ) (h : i + 1 < length ns) (z : Outcome Unit) (e : verdict (pairRefusals n values end (pairsOf (drop i ns))) ≡ z) where
-  opened : verdict (pairTests n values end (getD ns i 0) (getD ns (i + 1) 0) ++ pairRefusals n values (getD ns i 0 + getD ns (i + 1) 0) (pairsOf (drop (i + 2) ns))) ≡ z
-  unfolding pairRefusals
-  opened = rw (pairs-next ns i h) at e
+  pub pair-good : verdict (pairTests n values end p) ≡ nothing → accepted (p .offset + p .size) ≡ nextSeen n values s p
+  unfolding nextSeen
+  pair-good v = rw e (sym (judged-accepted (pairTests n values end p) (p .offset + p .size) v))
 
-  pub pair-good : verdict (pairTests n values end (getD ns i 0) (getD ns (i + 1) 0)) ≡ nothing
-      → judged (pairRefusals n values (getD ns i 0 + getD ns (i + 1) 0) (pairsOf (drop (i + 2) ns))) tt ≡ z
-  pair-good g =
-      sym (judged-past (pairTests n values end (getD ns i 0) (getD ns (i + 1) 0)) (pairRefusals n values (getD ns i 0 + getD ns (i + 1) 0) (pairsOf (drop (i + 2) ns))) tt g) ∙ opened
+-- what the pairs that are left come to
+unfoldable pub seenFrom : ℕ → ℕ → Outcome ℕ → List Pair → Outcome Unit
+seenFrom n values s [] = seenAll s
+seenFrom n values s (p ∷ ps) = seenFrom n values (nextSeen n values s p) ps
 
-  pub pair-bad : (k : ℕ) → verdict (pairTests n values end (getD ns i 0) (getD ns (i + 1) 0)) ≡ refused k → refused k ≡ z
-  pair-bad k g =
-      sym (judged-front (pairTests n values end (getD ns i 0) (getD ns (i + 1) 0)) (pairRefusals n values (getD ns i 0 + getD ns (i + 1) 0) (pairsOf (drop (i + 2) ns))) tt k g) ∙ opened
+module _ (n values : ℕ) where
+  after-refusal : (k : ℕ) (ps : List Pair) → seenFrom n values (refused k) ps ≡ refused k
+  unfolding seenFrom nextSeen
+  after-refusal k [] = refl
+  after-refusal k (p ∷ ps) = after-refusal k ps
 
-pub pairs-good : (n values end : ℕ) (ns : List ℕ) (i : ℕ) (z : Outcome Unit) → length ns ≤ i + 1 → verdict (pairRefusals n values end (pairsOf (drop i ns))) ≡ z → nothing ≡ z
-unfolding pairRefusals
-pairs-good n values end ns i z h e = rw (pairs-done ns i h) at e
+  after-test : (t : Bool) (k : ℕ) (s : Outcome ℕ) (z : Outcome Unit) (ps : List Pair) → seenFrom n values s ps ≡ z
+      → seenFrom n values (cond t (refused k) s) ps ≡ cond t (refused k) z
+  after-test true k s z ps e = after-refusal k ps
+  after-test false k s z ps e = e
+
+  after-tests : (cs : List Condition) (end : ℕ) (ps : List Pair) (rest : List Condition) → seenFrom n values (accepted end) ps ≡ verdict rest
+      → seenFrom n values (judged cs end) ps ≡ verdict (cs ++ rest)
+  after-tests [] end ps rest e = e
+  after-tests (c ∷ cs) end ps rest e = after-test (c .holds) (c .number) (judged cs end) (verdict (cs ++ rest)) ps (after-tests cs end ps rest e)
+
+  -- the pairs, one after another, are judged as a whole
+  pub seen-pairs : (end : ℕ) (ps : List Pair) → seenFrom n values (accepted end) ps ≡ verdict (pairRefusals n values end ps)
+  unfolding seenFrom nextSeen pairRefusals
+  seen-pairs end [] = refl
+  seen-pairs end (p ∷ ps) =
+      let next = p .offset + p .size in
+      after-tests (pairTests n values end p) next ps (pairRefusals n values next ps) (seen-pairs next ps)
+
+  -- one pair more, and none more
+  pub seen-more : (s : Outcome ℕ) {t : Outcome ℕ} {z : Outcome Unit} (p : Pair) (ps : List Pair) → t ≡ nextSeen n values s p → seenFrom n values s (p ∷ ps) ≡ z → seenFrom n values t ps ≡ z
+  unfolding seenFrom
+  seen-more s p ps e z = rw e z
+
+  pub seen-last : (s : Outcome ℕ) {z : Outcome Unit} → seenFrom n values s [] ≡ z → seenAll s ≡ z
+  unfolding seenFrom
+  seen-last s e = e
 
 -- ---- accepted pairs lie within the values
 

@@ -12,7 +12,8 @@ use Rattle.refusal.specs.Outcome.{Outcome, refused, Condition}
 use Rattle.refusal.proofs.Judged.{verdict, nothing, passed-by, judged-past, judged-front, kept-refused, kept-accepted, accepted-front, accepted-rest}
 use Rattle.batch.specs.Codes.{sizeN, sizeK}
 use Rattle.batch.specs.Pairs.{Pair, AllWithin}
-use Rattle.batch.specs.Calls.{Lent, Batch, batch, ruleNotOfCode, headRefusals, pairRefusals, refusalsOf, refusals, written, Answered}
+use Rattle.batch.specs.Calls.{Lent, Batch, batch, ruleNotOfCode, headRefusals, pairRefusals, refusalsOf, roomOf, refusals, written, Answered}
+use Rattle.batch.specs.Steps.{Fitting}
 use Rattle.batch.specs.declared.Room.{Room}
 use Rattle.batch.proofs.Pairs.{all-within}
 
@@ -74,6 +75,19 @@ module _ (code rule values : ℕ) (ps : List Pair) (room : Room) where
 
 -- the answer and the lent memory, where the call is refused and where it is accepted
 module _ (b : Batch) where
+  pub fitting : verdict (refusals b) ≡ nothing → Fitting b
+  fitting v =
+      let g = all-good (b .code) (b .rule) (length (b .values)) (b .pairs) (roomOf (b .memory)) v in
+      record {
+        known = g .known;
+        inside = all-inside (b .code) (b .rule) (length (b .values)) (b .pairs) (roomOf (b .memory)) v;
+        bits = g .bits;
+        counts = g .counts;
+        rounds = g .rounds;
+        firsts = g .firsts;
+        area = g .area;
+      }
+
   pub turned-down : (k : ℕ) → verdict (refusals b) ≡ refused k → Answered b (refused k) (b .memory)
   turned-down k v = record { says = sym v; leaves = sym (kept-refused (refusals b) (b .memory) (written b) k v) }
 

@@ -51,15 +51,18 @@ batch code rule limit scale values pairs memory = record {
 
 -- ---- refusals
 
--- "10: pair length not N", "11: offset below the end of the pair before", "12: pair ends past the values": "tested pair by pair".
--- `end` is the end of the pair before, 0 at the first pair.
-unfoldable pub pairRefusals : ℕ → ℕ → ℕ → List Pair → List Condition
-pairRefusals n values end [] = []
-pairRefusals n values end (p ∷ ps) =
+-- "10: pair length not N", "11: offset below the end of the pair before", "12: pair ends past the values"
+abbrev pub pairTests : ℕ → ℕ → ℕ → Pair → List Condition
+pairTests n values end p =
     (10 when not (eqb (p .size) n))
     ∷ (11 when ltb (p .offset) end)
     ∷ (12 when ltb values (p .offset + p .size))
-    ∷ pairRefusals n values (p .offset + p .size) ps
+    ∷ []
+
+-- "tested pair by pair". `end` is the end of the pair before, 0 at the first pair.
+unfoldable pub pairRefusals : ℕ → ℕ → ℕ → List Pair → List Condition
+pairRefusals n values end [] = []
+pairRefusals n values end (p ∷ ps) = pairTests n values end p ++ pairRefusals n values (p .offset + p .size) ps
 
 -- change request N3: "3 when code 3 comes with rule 1 or 2 or another code with rule 4"
 unfoldable pub ruleNotOfCode : ℕ → ℕ → Bool

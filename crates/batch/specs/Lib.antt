@@ -1,6 +1,7 @@
 pub mod Codes
 pub mod Pairs
 pub mod Calls
+pub mod Steps
 pub mod Promise
 pub mod Cases
 pub mod RoundTrip

@@ -9,11 +9,14 @@ pub record Pair : Type 0 where
   pub offset : ℕ
   pub size : ℕ
 
+abbrev pub pair : ℕ → ℕ → Pair
+pair offset size = record { offset = offset; size = size }
+
 -- the pairs of a flat list of numbers, offset and length in turn; an odd last number is no pair
 unfoldable pub pairsOf : List ℕ → List Pair
 pairsOf [] = []
 pairsOf (o ∷ []) = []
-pairsOf (o ∷ n ∷ ns) = record { offset = o; size = n } ∷ pairsOf ns
+pairsOf (o ∷ n ∷ ns) = pair o n ∷ pairsOf ns
 
 -- the values that a pair names
 unfoldable pub frameOf : List Float → Pair → List Float

@@ -16,8 +16,9 @@ ghost use Rattle.tanner.specs.Found.{firstOf};
 ghost use Rattle.belief.specs.Chosen.{Chose};
 ghost use Rattle.belief.specs.Graph.{cleared};
 ghost use Rattle.batch.specs.Codes.{sizeN, sizeK, decodeOf};
-ghost use Rattle.batch.specs.Pairs.{pairsOf, AllWithin};
-ghost use Rattle.batch.specs.Calls.{lent, batch, ruleNotOfCode, pairRefusals, headRefusals, refusalsOf, placeOf, written, asStored, Answered};
+ghost use Rattle.batch.specs.Pairs.{pair, pairsOf, frameOf};
+ghost use Rattle.batch.specs.Calls.{lent, batch, ruleNotOfCode, pairTests, pairRefusals, headRefusals, refusalsOf, placeOf, written, asStored, Answered};
+ghost use Rattle.batch.specs.Steps.{seenOf, nextSeen, seenAll, Fitting, PlaceFits, placed};
 
 // How many pairs a batch may have.
 pub const MOST_PAIRS: usize = 24;
@@ -70,7 +71,7 @@ fn rule_not_of_code(code: u32, rule: u32) -> bool
 }
 
 // The numbers and the lengths, in the order of document 01's table.
-fn head_fault(code: u32, rule: u32, pairs: usize, room: Room) -> Status
+pub fn head_fault(code: u32, rule: u32, pairs: usize, room: Room) -> Status
     ensures { λ r. ⌜ statusOf r ≡ judged (headRefusals code rule pairs room) tt ⌝ }
 {
     if code > 3 {
@@ -107,7 +108,7 @@ fn head_fault(code: u32, rule: u32, pairs: usize, room: Room) -> Status
 fn pair_fault(n: usize, values: usize, end: usize, offset: usize, size: usize) -> Status
     requires { ⌜ offset < 4294967296 ⌝ }
     requires { ⌜ size < 4294967296 ⌝ }
-    ensures { λ r. ⌜ statusOf r ≡ judged ((10 when not (eqb size n)) ∷ (11 when ltb offset end) ∷ (12 when ltb values (offset + size)) ∷ []) tt ⌝ }
+    ensures { λ r. ⌜ statusOf r ≡ judged (pairTests n values end (pair offset size)) tt ⌝ }
 {
     if size != n {
         return Status::Refused(Refusal::PairLength);
@@ -121,22 +122,48 @@ fn pair_fault(n: usize, values: usize, end: usize, offset: usize, size: usize) -
     Status::Done
 }
 
+// What the pairs looked at so far come to: where the last of them ends, or the refusal of the first faulty one.
+pub enum Seen {
+    Until(usize),
+    Refused(Refusal),
+}
+
+// One pair more.
+pub fn next_pair(seen: Seen, n: usize, values: usize, offset: u32, size: u32) -> Seen
+    ensures { λ r. ⌜ seenOf r ≡ nextSeen n values (seenOf seen) (pair offset size) ⌝ }
+{
+    let Seen::Until(end) = seen else {
+        return seen;
+    };
+    let from = offset as usize;
+    let long = size as usize;
+    if let Status::Refused(r) = pair_fault(n, values, end, from, long) {
+        return Seen::Refused(r);
+    }
+    Seen::Until(from + long)
+}
+
+// The answer, where no pair is left.
+pub fn seen_all(seen: Seen) -> Status
+    ensures { λ r. ⌜ statusOf r ≡ seenAll (seenOf seen) ⌝ }
+{
+    match seen {
+        Seen::Until(_) => Status::Done,
+        Seen::Refused(r) => Status::Refused(r),
+    }
+}
+
 // The pairs, one after another: the first faulty one decides.
 fn pairs_fault(n: usize, values: usize, pairs: &[u32]) -> Status
     ensures { λ r. ⌜ statusOf r ≡ judged (pairRefusals n values 0 (pairsOf (now (pairs .entry)))) tt ⌝ }
 {
-    let mut end: usize = 0;
+    let mut seen = Seen::Until(0);
     let mut i = 0;
     while i + 1 < pairs.len() {
-        let offset = pairs[i] as usize;
-        let size = pairs[i + 1] as usize;
-        if let Status::Refused(r) = pair_fault(n, values, end, offset, size) {
-            return Status::Refused(r);
-        }
-        end = offset + size;
+        seen = next_pair(seen, n, values, pairs[i], pairs[i + 1]);
         i += 2;
     }
-    Status::Done
+    seen_all(seen)
 }
 
 // Whether a batch over so many values is turned down, and by which number: the numbers and the lengths, then the pairs.
@@ -185,6 +212,54 @@ pub fn place_of(first: FirstCheck) -> u16
     }
 }
 
+// The part of the work area that an accepted call clears.
+pub fn clear_area(work: &mut [f32])
+    requires { ⌜ 3070 ≤ length (now work) ⌝ }
+    ensures { λ _. ⌜ now (work .exit) ≡ cleared (now (work .entry)) ⌝ }
+{
+    belief::clear(&mut work[..WORK]);
+}
+
+// One frame, the values from `offset` on: decoded to place j of each output.
+pub fn decode_place(
+    code: u32,
+    rule: u32,
+    scale: f32,
+    limit: u16,
+    values: &[f32],
+    offset: u32,
+    j: usize,
+    bits: &mut [u8],
+    counts: &mut [u16],
+    rounds: &mut [u16],
+    firsts: &mut [u16],
+    work: &mut [f32],
+)
+    requires { ⌜ PlaceFits code offset j (now values) (lent (now bits) (now counts) (now rounds) (now firsts) (now work)) ⌝ }
+    ensures { λ _. ⌜ lent (now (bits .exit)) (now (counts .exit)) (now (rounds .exit)) (now (firsts .exit)) (now (work .exit))
+        ≡ placed (decodeOf code rule scale (frameOf (now (values .entry)) (pair offset (sizeN code)))) limit (sizeK code) j
+        (lent (now (bits .entry)) (now (counts .entry)) (now (rounds .entry)) (now (firsts .entry)) (now (work .entry))) ⌝ }
+{
+    let from = offset as usize;
+    let to = from + frame_values(code);
+    let k = message_bits(code);
+    let at = j * k;
+    let next = at + k;
+    let told = decode_frame(
+        code,
+        rule,
+        scale,
+        limit,
+        &values[from..to],
+        &mut bits[at..next],
+        work,
+    );
+    let first = told.first;
+    counts[j] = told.count;
+    rounds[j] = told.rounds;
+    firsts[j] = place_of(first);
+}
+
 // All frames, in place order.
 fn decode_frames(
     code: u32,
@@ -199,41 +274,31 @@ fn decode_frames(
     firsts: &mut [u16],
     work: &mut [f32],
 )
-    requires { ⌜ code < 4 ⌝ }
-    requires { ⌜ AllWithin (sizeN code) (length (now values)) (pairsOf (now pairs)) ⌝ }
-    requires { ⌜ length (now bits) ≡ length (pairsOf (now pairs)) * sizeK code ⌝ }
-    requires { ⌜ length (now counts) ≡ length (pairsOf (now pairs)) ⌝ }
-    requires { ⌜ (length (now rounds) ≡ length (pairsOf (now pairs))) × (length (now firsts) ≡ length (pairsOf (now pairs))) ⌝ }
-    requires { ⌜ 3070 ≤ length (now work) ⌝ }
+    requires { ⌜ Fitting (batch code rule limit scale (now values) (pairsOf (now pairs))
+        (lent (now bits) (now counts) (now rounds) (now firsts) (now work))) ⌝ }
     ensures { λ _. ⌜ lent (now (bits .exit)) (now (counts .exit)) (now (rounds .exit)) (now (firsts .exit)) (now (work .exit))
         ≡ written (batch code rule limit scale (now (values .entry)) (pairsOf (now (pairs .entry)))
         (lent (now (bits .entry)) (now (counts .entry)) (now (rounds .entry)) (now (firsts .entry)) (now (work .entry)))) ⌝ }
 {
-    let k = message_bits(code);
-    let n = frame_values(code);
-    belief::clear(&mut work[..WORK]);
     let mut j = 0;
-    let mut at = 0;
     while j < counts.len() {
-        let from = pairs[j * 2] as usize;
-        let to = from + n;
-        let next = at + k;
-        let told = decode_frame(
+        decode_place(
             code,
             rule,
             scale,
             limit,
-            &values[from..to],
-            &mut bits[at..next],
+            values,
+            pairs[j * 2],
+            j,
+            bits,
+            counts,
+            rounds,
+            firsts,
             work,
         );
-        let first = told.first;
-        counts[j] = told.count;
-        rounds[j] = told.rounds;
-        firsts[j] = place_of(first);
-        at = next;
         j += 1;
     }
+    clear_area(work);
 }
 
 // The batch over flat slices: `pairs` has an offset and a length in turn.

@@ -24,7 +24,7 @@ use denote.Steps.{owned}
 use denote.Struct.Steps.{spelt}
 use denote.Struct.Laws as LL
 use Rattle.xorshift.specs.declared.Xorshift.{Xorshift}
-use Rattle.xorshift.proofs.Lend.{Handle, token, RefOwn}
+use Rattle.walks.proofs.Lend.{Handle, token, RefOwn}
 use Rattle.xorshift.proofs.Xorshift as T
 use Rattle.xorshift.proofs.Xorshift.Laws as T′
 

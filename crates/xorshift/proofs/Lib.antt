@@ -1,8 +1,2 @@
 pub mod Bits
 pub mod Generator
-pub mod Args
-pub mod Calls
-pub mod Lend
-pub mod Loans
-pub mod Walk
-pub mod Frame

@@ -1,11 +1,10 @@
 -- `batch::decode_batch` meets its contract: the tests, and then the frames. Assumes nothing.
 use mathlib.Core.Path.{_≡_, sym, ap, _∙_}
-use lib.ListN.{length}
 use Rattle.refusal.specs.Answers.{statusOf}
 use Rattle.refusal.proofs.Judged.{verdict, nothing}
 use Rattle.batch.specs.Pairs.{pairsOf}
-use Rattle.batch.specs.Calls.{lent, Batch, batch, roomOf, refusals}
-use Rattle.batch.proofs.Whole.{all-good, all-inside, turned-down, carried-out}
+use Rattle.batch.specs.Calls.{lent, Batch, batch, refusals}
+use Rattle.batch.proofs.Whole.{fitting, turned-down, carried-out}
 use borrow.Author.Needs.{needs}
 use Rattle.batch.proofs.decode_batch.Statement.{statement}
 use Rattle.batch.proofs.decode_batch.Tie as tie
@@ -51,10 +50,7 @@ enum-told c = search needs
 decode-frames-requires : tie.Need-decode-frames-requires
 decode-frames-requires c κs =
     let e = c .before .before .before .before .before in
-    let b = handed (tested e) in
-    let g = all-good (b .code) (b .rule) (length (b .values)) (b .pairs) (roomOf (b .memory)) (good e) in
-    let inside = all-inside (b .code) (b .rule) (length (b .values)) (b .pairs) (roomOf (b .memory)) (good e) in
-    (g .known, (inside, (g .bits, (g .counts, ((g .rounds, g .firsts), g .area)))))
+    fitting (handed (tested e)) (good e)
 
 same-length : tie.Need-same-length
 same-length c = search needs

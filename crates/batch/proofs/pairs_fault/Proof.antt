@@ -1,70 +1,47 @@
--- `batch::pairs_fault` meets its contract. The invariant: what the rest of the pairs gives is what all give. Assumes nothing.
-use mathlib.Core.Path.{_≡_, sym, ap, _∙_}
-use Prim.Native.Nat.{_+_, _-_, _≤_}
+-- `batch::pairs_fault` meets its contract. The invariant: what the pairs that are left come to is what all come to. Assumes nothing.
+use mathlib.Core.Path.{_≡_, _∙_}
+use Prim.Native.Nat.{_-_, _≤_}
 use native.Mathlib.Omega.{arith}
 use lib.ListN.{length, drop}
-use Rattle.batch.specs.Pairs.{pairsOf}
-use Rattle.refusal.specs.Answers.{statusOf}
 use Rattle.refusal.proofs.Judged.{verdict}
+use Rattle.batch.specs.Pairs.{pairsOf}
 use Rattle.batch.specs.Calls.{pairRefusals}
-use Rattle.batch.proofs.Pairs.{pair-good, pair-bad, pairs-good}
+use Rattle.batch.specs.Steps.{seenOf}
+use Rattle.batch.proofs.Pairs.{seenFrom, seen-pairs, seen-more, seen-last, pairs-next, pairs-done}
 use borrow.Author.Needs.{needs}
 use Rattle.batch.proofs.pairs_fault.Statement.{statement}
 use Rattle.batch.proofs.pairs_fault.Tie as tie
-use Rattle.batch.proofs.pairs_fault.Reads as reads
-use Rattle.batch.proofs.pairs_fault.Lts as lts
-use Rattle.batch.proofs.pair_fault.Reads as pair-fault-reads
 
 abbrev Inv-loop : tie.InvT-loop
-Inv-loop n values pairs end₀ i₀ end i = (i ≤ length pairs) × (verdict (pairRefusals n values end (pairsOf (drop i pairs))) ≡ verdict (pairRefusals n values 0 (pairsOf pairs)))
+Inv-loop n values pairs seen₀ i₀ seen i =
+    (i ≤ length pairs) × (seenFrom n values (seenOf seen) (pairsOf (drop i pairs)) ≡ verdict (pairRefusals n values 0 (pairsOf pairs)))
 
 abbrev μ-loop : tie.MeasureT-loop
-μ-loop n values pairs end₀ i₀ end i = length pairs - i
+μ-loop n values pairs seen₀ i₀ seen i = length pairs - i
 
 loop-holds : tie.Need-loop-holds Inv-loop μ-loop
-loop-holds c = search needs
+loop-holds c = (omega arith, seen-pairs _ _ 0 _)
 
 add-loop : tie.Need-add-loop Inv-loop μ-loop
 add-loop c = search needs
 
-mul-offset : tie.Need-mul-offset Inv-loop μ-loop
-mul-offset c = search needs
+mul-next-pair : tie.Need-mul-next-pair Inv-loop μ-loop
+mul-next-pair c = search needs
 
-shared-slice-read-offset : tie.Need-shared-slice-read-offset Inv-loop μ-loop
-shared-slice-read-offset c = search needs
+shared-slice-read-next-pair : tie.Need-shared-slice-read-next-pair Inv-loop μ-loop
+shared-slice-read-next-pair c = search needs
 
-cast-offset : tie.Need-cast-offset Inv-loop μ-loop
-cast-offset c = omega (arith, c .shared-slice-known2 .given (c .before .before .loop .i))
+add-next-pair : tie.Need-add-next-pair Inv-loop μ-loop
+add-next-pair c = search needs
 
-add-size : tie.Need-add-size Inv-loop μ-loop
-add-size c = search needs
+mul-next-pair-2 : tie.Need-mul-next-pair-2 Inv-loop μ-loop
+mul-next-pair-2 c = search needs
 
-mul-size : tie.Need-mul-size Inv-loop μ-loop
-mul-size c = search needs
+shared-slice-read-next-pair-2 : tie.Need-shared-slice-read-next-pair-2 Inv-loop μ-loop
+shared-slice-read-next-pair-2 c = search needs
 
-shared-slice-read-size : tie.Need-shared-slice-read-size Inv-loop μ-loop
-shared-slice-read-size c = search needs
-
-cast-size : tie.Need-cast-size Inv-loop μ-loop
-cast-size c = omega (arith, c .shared-slice-known3 .given (c .before .before .before .loop .i + 1))
-
-pair-fault-requires : tie.Need-pair-fault-requires Inv-loop μ-loop
-pair-fault-requires c κs = omega (arith, c .shared-slice-known3 .given (c .before .before .before .loop .i + 1), c .before .shared-slice-known2 .given (c .before .before .before .loop .i))
-
-enum-known-r : tie.Need-enum-known-r Inv-loop μ-loop
-enum-known-r c = search needs
-
-returns : tie.Need-returns Inv-loop μ-loop
-returns c =
-    let fault = c .before .before .before in
-    let turn = fault .before .before .before in
-    pair-bad _ _ _ _ _ (turn .loop-test .taken) _ (turn .before .loop .inv .1) _ (sym (fault .pair-fault .ensures) ∙ ap statusOf (c .before .r .given .1))
-
-enum-told : tie.Need-enum-told Inv-loop μ-loop
-enum-told c = search needs
-
-add-end : tie.Need-add-end Inv-loop μ-loop
-add-end c = omega (arith, c .before .before .before .shared-slice-known3 .given (c .before .before .before .before .before .before .loop .i + 1), c .before .before .before .before .shared-slice-known2 .given (c .before .before .before .before .before .before .loop .i))
+next-pair-requires : tie.Need-next-pair-requires Inv-loop μ-loop
+next-pair-requires c κs = search needs
 
 add-i : tie.Need-add-i Inv-loop μ-loop
 add-i c = search needs
@@ -74,12 +51,17 @@ loop-less c = search needs
 
 loop-again : tie.Need-loop-again Inv-loop μ-loop
 loop-again c =
-    let fault = c .before .before in
-    let turn = fault .before .before .before in
-    (omega arith, pair-good _ _ _ _ _ (turn .loop-test .taken) _ (turn .before .loop .inv .1) (sym (fault .pair-fault .ensures) ∙ ap statusOf (c .enum-told .given .1)))
+    let turn = c .before .before .before in
+    let l = turn .before .loop in
+    (omega arith, seen-more _ _ (seenOf (l .seen)) _ _ (c .next-pair .ensures) (rw (pairs-next _ _ (turn .loop-test .taken)) at (l .inv .1)))
 
-returns-2 : tie.Need-returns-2 Inv-loop μ-loop
-returns-2 c = pairs-good _ _ _ _ _ _ (c .loop-test .left) (c .before .loop .inv .1)
+seen-all-requires : tie.Need-seen-all-requires Inv-loop μ-loop
+seen-all-requires c κs = search needs
+
+returns : tie.Need-returns Inv-loop μ-loop
+returns c =
+    let l = c .before .before .loop in
+    c .seen-all .ensures ∙ seen-last _ _ (seenOf (l .seen)) (rw (pairs-done _ _ (c .before .loop-test .left)) at (l .inv .1))
 
 pub pairs-fault-spec : {M : Type 1} → statement M
 pairs-fault-spec =
@@ -89,19 +71,14 @@ pairs-fault-spec =
     μ-loop
     loop-holds
     add-loop
-    mul-offset
-    shared-slice-read-offset
-    cast-offset
-    add-size
-    mul-size
-    shared-slice-read-size
-    cast-size
-    pair-fault-requires
-    enum-known-r
-    returns
-    enum-told
-    add-end
+    mul-next-pair
+    shared-slice-read-next-pair
+    add-next-pair
+    mul-next-pair-2
+    shared-slice-read-next-pair-2
+    next-pair-requires
     add-i
     loop-less
     loop-again
-    returns-2)
+    seen-all-requires
+    returns)

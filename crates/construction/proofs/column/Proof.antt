@@ -17,7 +17,7 @@ use prog.Wp.{Heap, WpFn, Tables}
 use ghost.Atoms.{Atoms}
 use contract.Monad.{Fun, factI}
 use contract.Running.{givenOf, tables, tablesOf}
-use types.Kit.{Given, Item, ‵, Post, Seq, runs, lands, _$_, !, by, move, keep, fsplit, fjoin}
+use types.Kit.{Given, Item, ‵, Post, Seq, runs, lands, _$_, !, by, move}
 use types.Run.{Opds, addr, bin}
 use sound.WpLaws.{fmOf}
 use denote.Laws.{Is}
@@ -29,14 +29,14 @@ use denote.Triple.Spec.{Meets, tripleOf}
 use denote.Triple.Table.{entered, cited}
 use Rattle.xorshift.specs.Draw.{draw}
 use Rattle.xorshift.proofs.Xorshift as T
-use Rattle.xorshift.proofs.Args.{Arg, ref, slice, number, bound, typed, hands}
-use Rattle.xorshift.proofs.Args.{Param, kept-ref, kept-slice, plain-number, stays, all-go, all-spell, all-tell, haves}
-use Rattle.xorshift.proofs.Calls.{Callee}
+use Rattle.walks.proofs.Args.{Arg, bound, typed, hands}
+use Rattle.walks.proofs.Args.{Param, kept-ref, kept-slice, plain-number, stays, all-go, all-spell, all-tell, haves}
+use Rattle.walks.proofs.Calls.{Callee}
 use Rattle.xorshift.proofs.Generator.{holding}
-use Rattle.xorshift.proofs.Frame.{Spot, Cell, frame, begins, var, loc, con, args, points, sets, stores, passes-on, returns-all}
-use Rattle.xorshift.proofs.Lend.{Handle, handle, pointer, counted, Ref, Slice}
-use Rattle.xorshift.proofs.Loans.{Loan, lend, lend-slice, share-slice, give, lent-args, calls-lent}
-use Rattle.xorshift.proofs.Walk.{Walk, walking, meets-by}
+use Rattle.walks.proofs.Frame.{Spot, Cell, frame, begins, var, loc, con, args, points, sets, stores, passes-on, returns-all}
+use Rattle.walks.proofs.Lend.{Handle, handle, pointer, counted, Ref, Slice}
+use Rattle.walks.proofs.Loans.{Loan, lend, lend-slice, share-slice, give, lent-args, takes, calls-lent, own-args, gathers, scatters}
+use Rattle.walks.proofs.Walk.{Walk, walking, meets-by}
 use Rattle.construction.specs.Tables.{columnAt, Begun, Placed, Finished}
 use Rattle.construction.proofs.Picks.{picked-three}
 use Rattle.construction.proofs.Made.{column-made}
@@ -83,23 +83,20 @@ module _ {M : Type 1} (𝓤 : URA M) (H : Heap 𝓤) (A : Atoms 𝓤) (W : Given
         → Seq K W (‵ (frame E cs) ∷ Held s xs fs Γ) (runs (𝓣 .C) (𝓣 .Λ) E (seq (call #construction·one-pick os d) rest) q)
     picks s t xs fs ok z os k =
         calls-lent W (fmOf 𝓤 H (W .laws) 𝓣) pick.ended (pick.clauses 𝓤 H A mem run) known-pick (to-pick s t (ok .0) xs fs)
-        (record {
-          at = λ ν. bound (lent-args (to-pick s t (ok .0) xs fs) ν);
-          ghost = λ ν. tt;
-          asked = λ ν. hands 𝓤 H A W (lent-args (to-pick s t (ok .0) xs fs) ν);
-          lasts = λ ν ws. ws;
-          before = λ ν. refl;
-          after = λ ν ws. refl;
-        }) (λ ν. factI 𝓤 _ (emp 𝓤) ok) (λ ν x ws. (ws .0 .state ≡ draw s) × Placed (length ls) n t (ws .0 .state) xs ls x (ws .1 .0) (ws .1 .1 .1 .1 .1 .0))
+        (takes (λ ν. bound (lent-args (to-pick s t (ok .0) xs fs) ν)) (λ ν. tt) (λ ν. hands 𝓤 H A W (lent-args (to-pick s t (ok .0) xs fs) ν)) (λ ν ws. ws) (λ ν. refl) (λ ν ws. refl))
+        (λ ν. factI 𝓤 _ (emp 𝓤) ok) (λ ν x ws. (ws .0 .state ≡ draw s) × Placed (length ls) n t (ws .0 .state) xs ls x (ws .1 .0) (ws .1 .1 .1 .1 .1 .0))
         (λ ν x ws. id⊢ 𝓤 _)
         z (λ ν. os _ _) (λ ν v x ws e same. k v x (ws .0 .state) (ws .1 .0) (ws .1 .1 .1 .1 .1 .0) (e .0) (same .1 .0, same .1 .1 .1 .0) (e .1))
 
   module _ (generator rows loads marks : Handle) (s n : ℕ) (xs ls fs : List ℕ) (n-fits : n < 2 ^ 64)
       (xs-fit : length xs < 2 ^ 64) (ls-fit : length ls < 2 ^ 64) (fs-fit : length fs < 2 ^ 64) (ok : Begun (length ls) n 0 xs ls fs) where
     -- the arguments, and those of `finish_column`
+    abbrev mine : List Loan
+    mine = lend T.the-row generator (holding s) ∷ lend-slice u16 rows (length xs) xs-fit xs ∷ give n n-fits ∷ lend-slice u16 loads (length ls) ls-fit ls
+        ∷ lend-slice u8 marks (length fs) fs-fit fs ∷ []
+
     abbrev us : List Arg
-    us = ref T.the-row generator (holding s) ∷ slice u16 rows (length xs) xs-fit xs ∷ number n n-fits ∷ slice u16 loads (length ls) ls-fit ls
-        ∷ slice u8 marks (length fs) fs-fit fs ∷ []
+    us = own-args mine
 
     abbrev to-finish : List ℕ → List ℕ → List Loan
     to-finish xs′ fs′ = lend-slice u16 rows (length xs) xs-fit xs′ ∷ give n n-fits ∷ lend-slice u16 loads (length ls) ls-fit ls
@@ -113,10 +110,7 @@ module _ {M : Type 1} (𝓤 : URA M) (H : Heap 𝓤) (A : Atoms 𝓤) (W : Given
     three-fit p q r = omega (arith, p, q, r)
 
     walk : Walk W this.ended (stays params) (this.clauses 𝓤 H A mem run) 𝓣 code.function (bound us) tt
-    walk = walking (λ end. begins ! (typed us) (λ bs.
-        -- each reference beside its token
-        move ! (5 ∷ 1 ∷ []) $ fjoin ! $ move ! (5 ∷ 2 ∷ []) $ fjoin ! $ move ! (6 ∷ 3 ∷ []) $ fjoin ! $ move ! (6 ∷ 4 ∷ []) $ fjoin ! $
-        keep ! (4 ∷ 3 ∷ 2 ∷ 1 ∷ 0 ∷ []) $
+    walk = walking (λ end. begins ! (typed 𝓤 H A W us) (λ bs. gathers ! mine $
         -- held from here on: the locals, the generator, the table, the loads and the flags. The three picks
         sets ! (addr ! (points ! refl)) tt (tt, tt) $ passes-on ! refl tt tt xs-fit $ passes-on ! refl tt tt ls-fit $ passes-on ! refl tt tt fs-fit $
         picks generator rows loads marks n xs ls fs n-fits xs-fit ls-fit fs-fit s 0 xs fs (lit< tt, ok)
@@ -133,14 +127,8 @@ module _ {M : Type 1} (𝓤 : URA M) (H : Heap 𝓤) (A : Atoms 𝓤) (W : Given
         -- the column is finished: the generator stands behind, and the three others are lent
         passes-on ! refl tt tt xs-fit $ passes-on ! refl tt tt ls-fit $ passes-on ! refl tt tt fs-fit $ move ! (0 ∷ 2 ∷ 3 ∷ 4 ∷ []) $
         calls-lent W (fmOf 𝓤 H (W .laws) 𝓣) finish.ended (finish.clauses 𝓤 H A mem run) known-finish (to-finish xs₃ fs₃)
-        (record {
-          at = λ ν. bound (lent-args (to-finish xs₃ fs₃) ν);
-          ghost = λ ν. tt;
-          asked = λ ν. hands 𝓤 H A W (lent-args (to-finish xs₃ fs₃) ν);
-          lasts = λ ν ws. ws;
-          before = λ ν. refl;
-          after = λ ν ws. refl;
-        }) (λ ν. factI 𝓤 _ (emp 𝓤) (p₃ .1 .begun)) (λ ν _ ws. Finished (length ls) n (columnAt xs₃ n) xs₃ (ws .0) (ws .1 .1 .0) (ws .1 .1 .1 .0))
+        (takes (λ ν. bound (lent-args (to-finish xs₃ fs₃) ν)) (λ ν. tt) (λ ν. hands 𝓤 H A W (lent-args (to-finish xs₃ fs₃) ν)) (λ ν ws. ws) (λ ν. refl) (λ ν ws. refl))
+        (λ ν. factI 𝓤 _ (emp 𝓤) (p₃ .1 .begun)) (λ ν _ ws. Finished (length ls) n (columnAt xs₃ n) xs₃ (ws .0) (ws .1 .1 .0) (ws .1 .1 .1 .0))
         (λ ν _ ws. id⊢ 𝓤 _)
         ! (λ ν. args ! (loc 32 ∷ loc 3 ∷ loc 34 ∷ loc 36 ∷ []) refl) (λ ν v _ ws f same. stores ! (ap only (f .0)) tt (tt, tt) $
         -- held: the locals, the table, the loads, the flags and the generator. The sum
@@ -148,8 +136,7 @@ module _ {M : Type 1} (𝓤 : URA M) (H : Heap 𝓤) (A : Atoms 𝓤) (W : Given
         (tt, record { fits = two-fit (p₁ .1 .atMost) (p₂ .1 .atMost) }) $
         sets ! (bin ! (var ! refl) (var ! refl) (record { fits = three-fit (p₁ .1 .atMost) (p₂ .1 .atMost) (p₃ .1 .atMost) })) tt
         (tt, record { fits = three-fit (p₁ .1 .atMost) (p₂ .1 .atMost) (p₃ .1 .atMost) }) $
-        returns-all ! refl tt $ fsplit ! $ move ! (2 ∷ []) $ fsplit ! $ move ! (4 ∷ []) $ fsplit ! $ move ! (6 ∷ []) $ fsplit ! $
-        keep ! (1 ∷ 7 ∷ 5 ∷ 3 ∷ 0 ∷ 6 ∷ 4 ∷ 2 ∷ []) $
+        returns-all ! refl tt $ move ! (3 ∷ []) $ scatters ! mine (holding s₃, (ws .0, (tt, (ws .1 .1 .0, (ws .1 .1 .1 .0, tt))))) $
         by ! (end (vint w64 (x₁ + x₂ + x₃)) (x₁ + x₂ + x₃) (holding s₃, (ws .0, (tt, (ws .1 .1 .0, (ws .1 .1 .1 .0, tt)))))
         (haves 𝓤 H A params (bound us .0) (bound us .3) (holding s₃, (ws .0, (tt, (ws .1 .1 .0, (ws .1 .1 .1 .0, tt))))) (bound us .4))
         (uint-makes 𝓤 H A W w64 (x₁ + x₂ + x₃) _ (refl, three-fit (p₁ .1 .atMost) (p₂ .1 .atMost) (p₃ .1 .atMost)))

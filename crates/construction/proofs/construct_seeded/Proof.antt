@@ -26,12 +26,12 @@ use denote.Triple.Statement.{Triple}
 use denote.Triple.Spec.{Meets, tripleOf}
 use denote.Triple.Table.{entered, cited}
 use Rattle.xorshift.proofs.Xorshift as T
-use Rattle.xorshift.proofs.Args.{Arg, ref, slice, number, bound, typed, hands, Param, given-slice, plain-number, stays, all-go, all-spell, all-tell, haves}
-use Rattle.xorshift.proofs.Calls.{Callee, calls}
+use Rattle.walks.proofs.Args.{Arg, ref, slice, number, bound, typed, hands, Param, given-slice, plain-number, stays, all-go, all-spell, all-tell, haves}
+use Rattle.walks.proofs.Calls.{Callee, calls}
 use Rattle.xorshift.proofs.Generator.{holding, borrowed, generator-lent, generator-back}
-use Rattle.xorshift.proofs.Frame.{Blocks, blockOf, spots, begins, cell-of, var, loc, args, sets, stores, passes-on, lends, returned, returns-all}
-use Rattle.xorshift.proofs.Lend.{Handle, handle}
-use Rattle.xorshift.proofs.Walk.{Walk, walking, meets-by}
+use Rattle.walks.proofs.Frame.{Blocks, blockOf, spots, begins, cell-of, var, loc, args, sets, stores, passes-on, lends, returned, returns-all}
+use Rattle.walks.proofs.Lend.{Handle, handle}
+use Rattle.walks.proofs.Walk.{Walk, walking, meets-by}
 use Rattle.construction.specs.Tables.{Blank, Constructed}
 use Rattle.construction.proofs.Step as S
 use Rattle.construction.proofs.Step.Laws as S′
@@ -64,7 +64,7 @@ module _ {M : Type 1} (𝓤 : URA M) (H : Heap 𝓤) (A : Atoms 𝓤) (W : Given
         ∷ slice u16 loads (length ls) ls-fit ls ∷ slice u8 marks (length fs) fs-fit fs ∷ number k k-fits ∷ []
 
     walk : Walk W this.ended (stays params) (this.clauses 𝓤 H A mem run) 𝓣 code.function (bound us) tt
-    walk = walking (λ end. begins ! (typed us) (λ bs.
+    walk = walking (λ end. begins ! (typed 𝓤 H A W us) (λ bs.
         sets ! (agg ! (and-then ! (var ! refl) (no-more !))) tt (tt, (record { fits = s-fits }, tt)) $ sets ! (addr ! (from ! (stop !))) tt (tt, tt) $
         passes-on ! refl tt tt xs-fit $ passes-on ! refl tt tt ls-fit $ passes-on ! refl tt tt fs-fit $ lends ! 6 refl $
         generator-lent ! tt s (block bs) 0 s-fits (λ α δ.

@@ -20,7 +20,7 @@ use prog.Wp.{Heap, WpFn, Tables, afterTurn}
 use ghost.Atoms.{Atoms}
 use contract.Monad.{Fun, factI}
 use contract.Running.{givenOf, tables, tablesOf}
-use types.Kit.{Given, Item, ‵, atRet, _$_, !, by, move, keep, fsplit, fjoin}
+use types.Kit.{Given, Item, ‵, atRet, _$_, !, by}
 use types.Run.{of-opd, addr, bin, lit, first, blocks, loops, again, stays as goes-on, leaves-loop, exec}
 use sound.WpLaws.{fmOf}
 use denote.Plain.{uint-makes}
@@ -30,15 +30,15 @@ use denote.Triple.Statement.{Triple}
 use denote.Triple.Spec.{Meets, tripleOf}
 use denote.Triple.Table.{entered, cited}
 use Rattle.xorshift.proofs.Xorshift as T
-use Rattle.xorshift.proofs.Args.{Arg, ref, slice, number, bound, typed, hands}
-use Rattle.xorshift.proofs.Args.{Param, kept-ref, kept-slice, plain-number, stays, all-go, all-spell, all-tell, haves}
-use Rattle.xorshift.proofs.Calls.{Callee}
+use Rattle.walks.proofs.Args.{Arg, bound, typed, hands}
+use Rattle.walks.proofs.Args.{Param, kept-ref, kept-slice, plain-number, stays, all-go, all-spell, all-tell, haves}
+use Rattle.walks.proofs.Calls.{Callee}
 use Rattle.xorshift.proofs.Generator.{holding}
-use Rattle.xorshift.proofs.Frame.{empty, full, frame, Blocks, spots, begins, var, loc, args, points}
-use Rattle.xorshift.proofs.Frame.{sets, sets-as, sets-last, stores, passes-on, forgets-from, returns-all}
-use Rattle.xorshift.proofs.Lend.{Handle, handle, pointer, counted, Ref, Slice}
-use Rattle.xorshift.proofs.Loans.{Loan, lend, lend-slice, give, lent-args, calls-lent}
-use Rattle.xorshift.proofs.Walk.{Post, Walk, walking, meets-by}
+use Rattle.walks.proofs.Frame.{empty, full, frame, Blocks, spots, begins, var, loc, args, points}
+use Rattle.walks.proofs.Frame.{sets, sets-as, sets-last, stores, passes-on, forgets-from, returns-all}
+use Rattle.walks.proofs.Lend.{Handle, handle, pointer, counted, Ref, Slice}
+use Rattle.walks.proofs.Loans.{Loan, lend, lend-slice, give, lent-args, takes, calls-lent, own-args, gathers, scatters}
+use Rattle.walks.proofs.Walk.{Post, Walk, walking, meets-by}
 use Rattle.construction.specs.Tables.{Begun, ColumnMade, Blank, Constructed}
 use Rattle.construction.proofs.Made.{Built, built-none, built-begun, built-more, built-all}
 use Rattle.construction.proofs.column as column
@@ -114,12 +114,15 @@ module _ {M : Type 1} (𝓤 : URA M) (H : Heap 𝓤) (A : Atoms 𝓤) (W : Given
   module _ (generator rows loads marks : Handle) (s k : ℕ) (xs ls fs : List ℕ) (xs-fit : length xs < 2 ^ 64) (ls-fit : length ls < 2 ^ 64)
       (fs-fit : length fs < 2 ^ 64) (k-fits : k < 2 ^ 64) (ok : Blank (length ls) k xs ls fs) where
     -- the arguments, and those of `column`
-    abbrev us : List Arg
-    us = ref T.the-row generator (holding s) ∷ slice u16 rows (length xs) xs-fit xs ∷ slice u16 loads (length ls) ls-fit ls
-        ∷ slice u8 marks (length fs) fs-fit fs ∷ number k k-fits ∷ []
+    abbrev mine : List Loan
+    mine = lend T.the-row generator (holding s) ∷ lend-slice u16 rows (length xs) xs-fit xs ∷ lend-slice u16 loads (length ls) ls-fit ls
+        ∷ lend-slice u8 marks (length fs) fs-fit fs ∷ give k k-fits ∷ []
 
-    abbrev to-column : (i : Turn k (length ls) s) → i .n < 2 ^ 64 → List Loan
-    to-column i fits = lend T.the-row generator (holding (i .state)) ∷ lend-slice u16 rows (length xs) xs-fit (i .rows) ∷ give (i .n) fits
+    abbrev us : List Arg
+    us = own-args mine
+
+    abbrev to-column : (i : Turn k (length ls) s) → i .n < k → List Loan
+    to-column i p = lend T.the-row generator (holding (i .state)) ∷ lend-slice u16 rows (length xs) xs-fit (i .rows) ∷ give (i .n) (omega (arith, p, k-fits))
         ∷ lend-slice u16 loads (length ls) ls-fit (i .loads) ∷ lend-slice u8 marks (length fs) fs-fit (i .marks) ∷ []
 
     -- what is held at a turn: the locals, the generator, the table, the loads and the flags
@@ -135,25 +138,16 @@ module _ {M : Type 1} (𝓤 : URA M) (H : Heap 𝓤) (A : Atoms 𝓤) (W : Given
 
     walk : Walk W this.ended (stays params) (this.clauses 𝓤 H A mem run) 𝓣 code.function (bound us) tt
     unfolding afterTurn
-    walk = walking (λ end. begins ! (typed us) (λ bs.
-        -- each reference beside its token
-        move ! (5 ∷ 1 ∷ []) $ fjoin ! $ move ! (5 ∷ 2 ∷ []) $ fjoin ! $ move ! (5 ∷ 3 ∷ []) $ fjoin ! $ move ! (5 ∷ 4 ∷ []) $ fjoin ! $
-        keep ! (4 ∷ 3 ∷ 2 ∷ 1 ∷ 0 ∷ []) $
+    walk = walking (λ end. begins ! (typed 𝓤 H A W us) (λ bs. gathers ! mine $
         sets ! (of-opd ! (lit ! tt)) tt (tt, record { fits = lit< tt }) $ sets ! (of-opd ! (lit ! tt)) tt (tt, record { fits = lit< tt }) $
         first ! $ blocks ! $ loops ! 𝓣 (λ i j. left i < left j) (InvImage·wf left (Nat·lt-wfRel .wf)) (At bs) (λ i. elim (decLt (i .n) k) [
           | yes p ↦
               sets-as ! (bin ! (var ! refl) (var ! refl) tt) (ap vbool (lt-ltb (i .n) k p)) tt (tt, tt) $ goes-on ! (var ! refl) $
               -- the four references are lent to `column`
               sets ! (addr ! (points ! refl)) tt (tt, tt) $ passes-on ! refl tt tt xs-fit $ passes-on ! refl tt tt ls-fit $ passes-on ! refl tt tt fs-fit $
-              calls-lent W (fmOf 𝓤 H (W .laws) 𝓣) column.ended (column.clauses 𝓤 H A mem run) known (to-column i (omega (arith, p, k-fits)))
-              (record {
-                at = λ ν. bound (lent-args (to-column i (omega (arith, p, k-fits))) ν);
-                ghost = λ ν. tt;
-                asked = λ ν. hands 𝓤 H A W (lent-args (to-column i (omega (arith, p, k-fits))) ν);
-                lasts = λ ν ws. ws;
-                before = λ ν. refl;
-                after = λ ν ws. refl;
-              }) (λ ν. factI 𝓤 _ (emp 𝓤) (ready (ok .few) i p))
+              calls-lent W (fmOf 𝓤 H (W .laws) 𝓣) column.ended (column.clauses 𝓤 H A mem run) known (to-column i p)
+              (takes (λ ν. bound (lent-args (to-column i p) ν)) (λ ν. tt) (λ ν. hands 𝓤 H A W (lent-args (to-column i p) ν)) (λ ν ws. ws) (λ ν. refl) (λ ν ws. refl))
+              (λ ν. factI 𝓤 _ (emp 𝓤) (ready (ok .few) i p))
               (λ ν r ws. ColumnMade (length (i .loads)) (i .n) (i .state) (i .rows) (ws .0 .state) r (ws .1 .0) (ws .1 .1 .1 .0) (ws .1 .1 .1 .1 .0))
               (λ ν r ws. id⊢ 𝓤 _)
               ! (λ ν. args ! (loc 10 ∷ loc 12 ∷ loc 7 ∷ loc 14 ∷ loc 16 ∷ []) refl) (λ ν v r ws e same.
@@ -169,7 +163,7 @@ module _ {M : Type 1} (𝓤 : URA M) (H : Heap 𝓤) (A : Atoms 𝓤) (W : Given
               exec ! (𝓣 .C) (𝓣 .Λ) (spots (code.function .locals) bs) code.Mir.t-4
               (atRet (spots (code.function .locals) bs) (Post 𝓤 H A this.ended (stays params) (this.clauses 𝓤 H A mem run) (bound us) tt)) $
               sets ! (of-opd ! (var ! refl)) tt (tt, record { fits = relaxed-fits (ok .few) i }) $ returns-all ! refl tt $
-              fsplit ! $ move ! (2 ∷ []) $ fsplit ! $ move ! (4 ∷ []) $ fsplit ! $ move ! (6 ∷ []) $ fsplit ! $ keep ! (7 ∷ 5 ∷ 3 ∷ 1 ∷ 6 ∷ 4 ∷ 2 ∷ 0 ∷ []) $
+              scatters ! mine (holding (i .state), (i .rows, (i .loads, (i .marks, (tt, tt))))) $
               by ! (end (vint w64 (i .relaxed)) (i .relaxed) (holding (i .state), (i .rows, (i .loads, (i .marks, (tt, tt)))))
               (haves 𝓤 H A params (bound us .0) (bound us .3) (holding (i .state), (i .rows, (i .loads, (i .marks, (tt, tt))))) (bound us .4))
               (uint-makes 𝓤 H A W w64 (i .relaxed) _ (refl, relaxed-fits (ok .few) i))

@@ -25,13 +25,13 @@ use denote.Triple.Spec.{Meets, tripleOf}
 use denote.Triple.Table.{entered, cited}
 use Rattle.xorshift.specs.Draw.{draw}
 use Rattle.xorshift.proofs.Xorshift as T
-use Rattle.xorshift.proofs.Args.{Arg, ref, slice, shared, number, bound, typed, hands}
-use Rattle.xorshift.proofs.Args.{Param, given-ref, given-slice, shared-slice, plain-number, stays, all-go, all-spell, all-tell, haves}
-use Rattle.xorshift.proofs.Calls.{Callee, calls}
+use Rattle.walks.proofs.Args.{Arg, ref, slice, shared, number, bound, typed, hands}
+use Rattle.walks.proofs.Args.{Param, given-ref, given-slice, shared-slice, plain-number, stays, all-go, all-spell, all-tell, haves}
+use Rattle.walks.proofs.Calls.{Callee, calls}
 use Rattle.xorshift.proofs.Generator.{holding}
-use Rattle.xorshift.proofs.Frame.{begins, loc, args, points, sets, stores, passes-on, returns-all}
-use Rattle.xorshift.proofs.Lend.{Handle, handle}
-use Rattle.xorshift.proofs.Walk.{Walk, walking, meets-by}
+use Rattle.walks.proofs.Frame.{begins, loc, args, points, sets, stores, passes-on, returns-all}
+use Rattle.walks.proofs.Lend.{Handle, handle}
+use Rattle.walks.proofs.Walk.{Walk, walking, meets-by}
 use Rattle.xorshift.proofs.next as next
 use Rattle.xorshift.proofs.next.Symbol as next-def
 use Rattle.xorshift.proofs.next.Symbol.{name as #xorshift·next}
@@ -68,7 +68,7 @@ module _ {M : Type 1} (𝓤 : URA M) (H : Heap 𝓤) (A : Atoms 𝓤) (W : Given
 
     walk : Walk W this.ended (stays params) (this.clauses 𝓤 H A mem run) 𝓣 code.function (bound us) tt
     walk = walking (λ end.
-        begins ! (typed us) (λ bs.
+        begins ! (typed 𝓤 H A W us) (λ bs.
         -- held: the locals, the tokens of the four lifetimes, and from 5 on what the parameters own. The draw
         sets ! (addr ! (points ! refl)) tt (tt, tt) $ move ! (1 ∷ 5 ∷ 0 ∷ []) $
         calls W (fmOf 𝓤 H (W .laws) 𝓣) next.ended (next.clauses 𝓤 H A mem run) known-next (bound to-next) tt (hands 𝓤 H A W to-next) (id⊢ 𝓤 _)

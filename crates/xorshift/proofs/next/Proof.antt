@@ -29,12 +29,12 @@ use denote.Triple.Table.{entered, cited}
 use Rattle.xorshift.specs.Draw.{draw}
 use Rattle.xorshift.proofs.Xorshift as T
 use Rattle.xorshift.proofs.Xorshift.Laws as T′
-use Rattle.xorshift.proofs.Args.{Arg, ref, number, bound, typed, hands, Param, kept-ref, stays, all-go, all-spell, all-tell, haves}
-use Rattle.xorshift.proofs.Calls.{Callee, calls}
+use Rattle.walks.proofs.Args.{Arg, ref, number, bound, typed, hands, Param, kept-ref, stays, all-go, all-spell, all-tell, haves}
+use Rattle.walks.proofs.Calls.{Callee, calls}
 use Rattle.xorshift.proofs.Generator.{holding, machine}
-use Rattle.xorshift.proofs.Frame.{begins, cell-of, var, loc, args, sets, stores, returns-all}
-use Rattle.xorshift.proofs.Lend.{Handle, handle, pointer}
-use Rattle.xorshift.proofs.Walk.{Walk, walking, meets-by}
+use Rattle.walks.proofs.Frame.{begins, cell-of, var, loc, args, sets, stores, returns-all}
+use Rattle.walks.proofs.Lend.{Handle, handle, pointer}
+use Rattle.walks.proofs.Walk.{Walk, walking, meets-by}
 use Rattle.xorshift.proofs.draw as drawing
 use Rattle.xorshift.proofs.draw.Symbol as draw-def
 use Rattle.xorshift.proofs.draw.Symbol.{name as #xorshift·draw}
@@ -55,7 +55,7 @@ module _ {M : Type 1} (𝓤 : URA M) (H : Heap 𝓤) (A : Atoms 𝓤) (W : Given
 
     walk : Walk W next.ended (stays params) (next.clauses 𝓤 H A mem run) 𝓣 code.function (bound us) tt
     walk = walking (λ end.
-        begins ! (typed us) (λ bs. move ! (2 ∷ []) $ fsplit3 ! $ drop ! $ move ! (0 ∷ 1 ∷ 3 ∷ []) $
+        begins ! (typed 𝓤 H A W us) (λ bs. move ! (2 ∷ []) $ fsplit3 ! $ drop ! $ move ! (0 ∷ 1 ∷ 3 ∷ []) $
         opens ! tt T.the-row {h = holding n} (generator .block) (generator .offset) (λ vs.
         spelt ! T.the-row (Is T.the-row) (shows 𝓤 H A T.the-row) (LL.vals T.the-type T′.the-laws) (LL.tells T.the-type T′.the-laws) fullShare (holding n) vs
         (generator .block) (generator .offset) $

@@ -28,7 +28,7 @@ use denote.Triple.End.{Kepts, Fins}
 use denote.Triple.Entry.{Args, Res, onEntry}
 use denote.Triple.Spec.{Meets}
 use denote.Triple.Walked.{Stays, hasOf, walkOf, ends-at, Fit, AllGo, walked, walk-meets, needs}
-use Rattle.xorshift.proofs.Calls.{Hand, handed, handed-in, tokens, tokens-in, tokens-out}
+use Rattle.walks.proofs.Calls.{Hand, handed, handed-in, tokens, tokens-in, tokens-out}
 
 module _ {M : Type 1} (𝓤 : URA M) (H : Heap 𝓤) (A : Atoms 𝓤) where
   -- what the parameters own at entry

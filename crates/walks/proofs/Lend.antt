@@ -2,11 +2,12 @@
 -- the lifetime's token as one formula.
 --     Handle           by what a reference is held: the lifetime, the share of its token, the ghost name and the place
 --     at, lent         the reference of a handle at a value, and the handle that is lent on for the lifetime α under the name δ
---     Ref, Slice       a `&mut T` is held at x; a `&mut [T]` of n elements is held at ys
+--     Ref, Slice, Shared              a `&mut T` is held at x; a `&mut [T]` and a `&[T]` of n elements are held at ys
 --     ref-lent         Ref x  becomes the token of a new lifetime, what the reference that is lent on owns, and what is kept
 --     ref-back         the token, the last value y and what was kept become  Ref y
 --     slice-lent, slice-back          the same of a slice
 --     slice-shared, shared-back       a slice is lent on as a `&[T]`, and comes back as it was
+--     shared-copied    what a `&[T]` owns is had twice
 -- What a reference owns does not read its lifetime's name in MIR, so it is `erased` here. Assumes `Given`.
 use mathlib.Core.Path.{_≡_, sym, ap, _∙_}
 use Prim.Native.Nat.{ℕ}
@@ -20,11 +21,11 @@ use base.Fml.{Lft, GName, Share, Fml, fsep, feq, flft, fres}
 use prog.Wp.{Heap}
 use ghost.Atoms.{Atoms}
 use types.Kit.{Given, Item, ‵, some, given, later, _⊛_, Goal, Soaks, Seq, Step, step}
-use types.Kit.{_$_, move, use2, use3, split, pick, learn, fsplit, fjoin, feqL, feqI, await, drop}
+use types.Kit.{_$_, move, use1, use2, use3, split, pick, learn, fsplit, fjoin, feqL, feqI, await, drop}
 use types.Tokens.{lft-new, lft-end}
 use denote.RattleType.{RattleType}
 use denote.Ref.{RefT, MutRef}
-use denote.Slice.{MutSlice, ShrSlice, sliceVal, slice-vals, finally}
+use denote.Slice.{MutSlice, ShrSlice, sliceVal, slice-vals, finally, shr-slice-copy}
 use denote.Lend.{LentAgain, lends-again, comes-back}
 use borrow.Table.Owned as O
 use borrow.Rule.Slice.Lend.{keptF, sl-relend, sl-relent-backˡ}
@@ -74,6 +75,9 @@ module _ (R : RattleType) (h : Handle) where
 
   abbrev pub Slice : ℕ → List (R .Denot) → Fml
   Slice n ys = fsep (SliceOwn n ys) (token h)
+
+  abbrev pub Shared : ℕ → List (R .Denot) → Fml
+  Shared n ys = fsep (SharedOwn n ys) (token h)
 
   -- what is kept while it is lent
   abbrev pub RefKept : ℕ → GName → R .Denot → Fml
@@ -141,3 +145,8 @@ module _ {M : Type 1} {𝓤 : URA M} {H : Heap 𝓤} {A : Atoms 𝓤} {K : Type 
         use2 W (later (‵ (O.MutSlice erased (h .life) R .own (at h ys)) ⊛ ‵ (token h)))
         (sl-reshare-back 𝓤 H A W R (h .life) (h .share) (α ∷ []) (h .block) (h .offset) (h .name) ys) $ await t z $ split t $ fsplit t $
         feqI t (List Val) (counted h n ∷ []) (slice-vals (at h ys)) e $ fjoin t $ fjoin t $ fjoin t $ s))
+
+    -- a `&[T]` is held twice
+    pub shared-copied : Step K W (‵ (SharedOwn R h n ys) ∷ ‵ (SharedOwn R h n ys) ∷ ‵ (token h) ∷ Γ) G (‵ (Shared R h n ys) ∷ Γ) G
+    shared-copied = step (λ s. fsplit t $
+        use1 W (‵ (SharedOwn R h n ys) ⊛ ‵ (SharedOwn R h n ys)) (shr-slice-copy 𝓤 H A W erased (h .life) R .twice (at h ys) (counted h n ∷ [])) $ split t $ s)
