@@ -1,0 +1,35 @@
+//! Every function of the C header is called by a test that holds its answer against the original or against an account of its own.
+
+const HEADER: &str = include_str!("../../include/desklink.h");
+
+/// The tests that compare, by file.
+const COMPARISONS: [(&str, &str); 4] = [
+    ("compare.rs", include_str!("compare.rs")),
+    ("groups.rs", include_str!("groups.rs")),
+    ("clean.rs", include_str!("clean.rs")),
+    ("refusals.rs", include_str!("refusals.rs")),
+];
+
+/// The names of the header's functions, without the prefix and without the unguarded ones that others wrap.
+fn functions() -> Vec<&'static str> {
+    let name = |line: &'static str| line.split_once("int32_t desklink_")?.1.split_once('(').map(|(name, _)| name);
+    let mut names: Vec<&str> = HEADER.lines().filter(|line| !line.starts_with(' ')).filter_map(name).collect();
+    names.retain(|name| !name.ends_with("_unguarded"));
+    names
+}
+
+#[test]
+fn every_call_is_compared() {
+    let names = functions();
+    assert!(names.len() >= 17, "the header's functions were not found: {names:?}");
+    for name in names {
+        let calls = ["slices::", "desklink::", "port."].map(|path| format!("{path}{name}"));
+        let in_a_comparison = COMPARISONS.iter().any(|(_, text)| calls.iter().any(|call| names_call(text, call)));
+        assert!(in_a_comparison, "no comparison calls desklink_{name}");
+    }
+}
+
+/// Whether the text has the call as a whole name.
+fn names_call(text: &str, call: &str) -> bool {
+    text.match_indices(call).any(|(at, _)| !text[at + call.len()..].starts_with(|c: char| c.is_alphanumeric() || c == '_'))
+}
