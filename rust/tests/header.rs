@@ -12,8 +12,11 @@ const COMPARISONS: [(&str, &str); 4] = [
 
 /// The names of the header's functions, without the prefix and without the unguarded ones that others wrap.
 fn functions() -> Vec<&'static str> {
-    let name = |line: &'static str| line.split_once("int32_t desklink_")?.1.split_once('(').map(|(name, _)| name);
-    let mut names: Vec<&str> = HEADER.lines().filter(|line| !line.starts_with(' ')).filter_map(name).collect();
+    let name = |line: &'static str| {
+        let declared = line.strip_prefix("DESKLINK_GUARDED ").unwrap_or(line);
+        declared.strip_prefix("int32_t desklink_")?.split_once('(').map(|(name, _)| name)
+    };
+    let mut names: Vec<&str> = HEADER.lines().filter_map(name).collect();
     names.retain(|name| !name.ends_with("_unguarded"));
     names
 }
