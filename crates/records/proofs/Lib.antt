@@ -1,4 +1,3 @@
-pub mod Fields
-pub mod Looked
-pub mod Facts
-pub mod Arrays
+pub mod Types
+pub mod Answers
+pub mod Lists

@@ -1,29 +1,17 @@
--- "a lent list of pair records, each an offset and a length": the records' numbers, and the pairs that they are.
-use Prim.Native.Nat.{ℕ, zero, suc, min}
-use mathlib.Core.List.{List, [], _∷_}
-use Rattle.batch.specs.Pairs as Named
+-- "a lent list of pair records, each an offset and a length": the pairs that the records are.
+use mathlib.Core.Bool.{Bool, true, false}
+use mathlib.Core.List.{List, map}
+use Rattle.refusal.specs.Outcome.{Outcome, accepted, refused}
+use Rattle.batch.specs.Pairs as named
 use Rattle.records.specs.declared.Pair.{Pair}
 
--- the numbers, each record's offset and length in turn
-unfoldable pub fieldsOf : List Pair → List ℕ
-fieldsOf [] = []
-fieldsOf (p ∷ ps) = p .offset ∷ p .length ∷ fieldsOf ps
+abbrev pub pairOf : Pair → named.Pair
+pairOf p = named.pair (p .offset) (p .length)
 
--- the pair that a record is
-abbrev pub pairOf : Pair → Named.Pair
-pairOf p = record { offset = p .offset; size = p .length }
+abbrev pub pairsOf : List Pair → List named.Pair
+pairsOf ps = map pairOf ps
 
--- how many of n records are looked at: more than 24 pairs are refused, and one more than that says so
-abbrev pub most : ℕ
-most = 25
-
-abbrev pub lookedAt : ℕ → ℕ
-lookedAt n = min n most
-
--- a list of numbers with the first n records' fields in its first places
-unfoldable pub laid : ℕ → List Pair → List ℕ → List ℕ
-laid zero ps xs = xs
-laid (suc n) [] xs = xs
-laid (suc n) (p ∷ ps) [] = []
-laid (suc n) (p ∷ ps) (x ∷ []) = x ∷ []
-laid (suc n) (p ∷ ps) (x ∷ y ∷ xs) = p .offset ∷ p .length ∷ laid n ps xs
+-- a call that is turned down
+abbrev pub isRefused : Outcome Unit → Bool
+isRefused (accepted tt) = false
+isRefused (refused k) = true

@@ -1,72 +1,137 @@
-// The batch over a lent list of pair records: their fields are laid flat in a local array, and the flat batch does the rest.
+// The batch over a lent list of pair records. They are read where they lie, by a thin check and a thin batch call: a record at a time, which is
+// taken by value from there on. Crate `batch` does the work.
+use batch::Room;
+use batch::Seen;
+use refusal::Status;
 ghost use mathlib.Core.Path.{_≡_};
-ghost use mathlib.Core.List.{[], _∷_};
-ghost use Prim.Native.Nat.{_≤_, _*_};
-ghost use lib.ListN.{length, take};
-ghost use Rattle.refusal.specs.Outcome.{judged, kept};
+ghost use Rattle.refusal.specs.Outcome.{judged};
 ghost use Rattle.refusal.specs.Answers.{statusOf};
-ghost use Rattle.belief.specs.Graph.{cleared};
-ghost use Rattle.batch.specs.Calls.{batchRefusals, batchBits, batchCounts};
-ghost use Rattle.records.specs.Fields.{fieldsOf, lookedAt, laid};
-ghost use Rattle.records.specs.Answered.{Answered};
+ghost use Rattle.batch.specs.Codes.{sizeN, sizeK, decodeOf};
+ghost use Rattle.batch.specs.Pairs.{pair, frameOf};
+ghost use Rattle.batch.specs.Calls.{lent, batch, refusalsOf, written, Answered};
+ghost use Rattle.batch.specs.Steps.{seenOf, nextSeen, Fitting, PlaceFits, placed};
+ghost use Rattle.records.specs.Fields.{pairOf, pairsOf, isRefused};
 
-// A pair: where a frame's values begin, and how many they are.
+// A pair: where a frame's values begin, and how many they are. It lies in memory as C lays out two numbers.
+#[repr(C)]
 pub struct Pair {
     pub offset: u32,
     pub length: u32,
 }
 
-// How many of n records are looked at: one more than a batch may have is refused as any greater number is.
-fn looked_at(n: usize) -> usize
-    ensures { λ r. ⌜ r ≡ lookedAt n ⌝ }
+// Whether a call is turned down.
+fn turned_down(status: Status) -> bool
+    ensures { λ r. ⌜ r ≡ isRefused (statusOf status) ⌝ }
 {
-    if n > 25 {
-        return 25;
+    if let Status::Refused(_) = status {
+        return true;
     }
-    n
+    false
 }
 
-// The first n records' fields, an offset and a length in turn.
-fn flatten(pairs: &[Pair], n: usize, flat: &mut [u32])
-    requires { ⌜ (n ≤ length (now pairs)) × (n * 2 ≤ length (now flat)) ⌝ }
-    ensures { λ _. ⌜ now (flat .exit) ≡ laid n (now (pairs .entry)) (now (flat .entry)) ⌝ }
+// One record more in the check.
+fn next_record(seen: Seen, n: usize, values: usize, p: Pair) -> Seen
+    ensures { λ r. ⌜ seenOf r ≡ nextSeen n values (seenOf seen) (pairOf p) ⌝ }
 {
+    batch::next_pair(seen, n, values, p.offset, p.length)
+}
+
+// The check: whether a batch over these records is turned down, and by which number. The records are read where the numbers and the lengths,
+// that of the list among them, are good.
+pub fn batch_fault(code: u32, rule: u32, values: usize, pairs: &[Pair], room: Room) -> Status
+    ensures { λ r. ⌜ statusOf r ≡ judged (refusalsOf code rule values (pairsOf (now (pairs .entry))) room) tt ⌝ }
+{
+    let head = batch::head_fault(code, rule, pairs.len(), room);
+    if turned_down(head) {
+        return head;
+    }
+    let n = batch::frame_values(code);
+    let mut seen = Seen::Until(0);
     let mut i = 0;
-    while i < n {
-        let pair = pairs[i];
-        flat[i * 2] = pair.offset;
-        flat[i * 2 + 1] = pair.length;
+    while i < pairs.len() {
+        let p = pairs[i];
+        seen = next_record(seen, n, values, p);
         i += 1;
     }
+    batch::seen_all(seen)
 }
 
-// The batch over the first n pairs of a flat slice.
-fn decode_flat(
+// The frame of one record, decoded to place j of each output.
+fn decode_record(
     code: u32,
     rule: u32,
-    limit: u16,
     scale: f32,
+    limit: u16,
     values: &[f32],
-    flat: &[u32],
-    n: usize,
+    p: Pair,
+    j: usize,
     bits: &mut [u8],
     counts: &mut [u16],
+    rounds: &mut [u16],
+    firsts: &mut [u16],
     work: &mut [f32],
-) -> Status
-    requires { ⌜ n * 2 ≤ length (now flat) ⌝ }
-    ensures { λ r. ⌜ Answered code rule limit scale (now (values .entry)) (take (n * 2) (now (flat .entry))) (now (bits .entry)) (now (counts .entry)) (now (work .entry)) r (now (bits .exit)) (now (counts .exit)) (now (work .exit)) ⌝ }
+)
+    requires { ⌜ PlaceFits code (p .offset) j (now values) (lent (now bits) (now counts) (now rounds) (now firsts) (now work)) ⌝ }
+    ensures { λ _. ⌜ lent (now (bits .exit)) (now (counts .exit)) (now (rounds .exit)) (now (firsts .exit)) (now (work .exit))
+        ≡ placed (decodeOf code rule scale (frameOf (now (values .entry)) (pair (p .offset) (sizeN code)))) limit (sizeK code) j
+        (lent (now (bits .entry)) (now (counts .entry)) (now (rounds .entry)) (now (firsts .entry)) (now (work .entry))) ⌝ }
 {
-    batch::decode_batch(
+    batch::decode_place(
         code,
         rule,
-        limit,
         scale,
+        limit,
         values,
-        &flat[..n * 2],
+        p.offset,
+        j,
         bits,
         counts,
+        rounds,
+        firsts,
         work,
-    )
+    );
+}
+
+// All frames, in place order.
+fn decode_records(
+    code: u32,
+    rule: u32,
+    scale: f32,
+    limit: u16,
+    values: &[f32],
+    pairs: &[Pair],
+    bits: &mut [u8],
+    counts: &mut [u16],
+    rounds: &mut [u16],
+    firsts: &mut [u16],
+    work: &mut [f32],
+)
+    requires { ⌜ Fitting (batch code rule limit scale (now values) (pairsOf (now pairs))
+        (lent (now bits) (now counts) (now rounds) (now firsts) (now work))) ⌝ }
+    ensures { λ _. ⌜ lent (now (bits .exit)) (now (counts .exit)) (now (rounds .exit)) (now (firsts .exit)) (now (work .exit))
+        ≡ written (batch code rule limit scale (now (values .entry)) (pairsOf (now (pairs .entry)))
+        (lent (now (bits .entry)) (now (counts .entry)) (now (rounds .entry)) (now (firsts .entry)) (now (work .entry)))) ⌝ }
+{
+    let mut j = 0;
+    while j < pairs.len() {
+        let p = pairs[j];
+        decode_record(
+            code,
+            rule,
+            scale,
+            limit,
+            values,
+            p,
+            j,
+            bits,
+            counts,
+            rounds,
+            firsts,
+            work,
+        );
+        j += 1;
+    }
+    batch::clear_area(work);
 }
 
 // The batch over pair records: "a lent list of pair records, each an offset and a length".
@@ -79,51 +144,39 @@ pub fn decode_pairs(
     pairs: &[Pair],
     bits: &mut [u8],
     counts: &mut [u16],
+    rounds: &mut [u16],
+    firsts: &mut [u16],
     work: &mut [f32],
 ) -> Status
-    ensures { λ r. ⌜ statusOf r ≡ judged (batchRefusals code rule (now (values .entry)) (fieldsOf (now (pairs .entry))) (now (bits .entry)) (now (counts .entry)) (now (work .entry))) tt ⌝ }
-    ensures { λ _. ⌜ now (bits .exit) ≡ kept (batchRefusals code rule (now (values .entry)) (fieldsOf (now (pairs .entry))) (now (bits .entry)) (now (counts .entry)) (now (work .entry))) (now (bits .entry)) (batchBits code rule scale limit (now (values .entry)) (fieldsOf (now (pairs .entry)))) ⌝ }
-    ensures { λ _. ⌜ now (counts .exit) ≡ kept (batchRefusals code rule (now (values .entry)) (fieldsOf (now (pairs .entry))) (now (bits .entry)) (now (counts .entry)) (now (work .entry))) (now (counts .entry)) (batchCounts code rule scale limit (now (values .entry)) (fieldsOf (now (pairs .entry)))) ⌝ }
-    ensures { λ _. ⌜ now (work .exit) ≡ kept (batchRefusals code rule (now (values .entry)) (fieldsOf (now (pairs .entry))) (now (bits .entry)) (now (counts .entry)) (now (work .entry))) (now (work .entry)) (cleared (now (work .entry))) ⌝ }
+    ensures { λ r. ⌜ Answered
+        (batch code rule limit scale (now (values .entry)) (pairsOf (now (pairs .entry)))
+        (lent (now (bits .entry)) (now (counts .entry)) (now (rounds .entry)) (now (firsts .entry)) (now (work .entry))))
+        (statusOf r)
+        (lent (now (bits .exit)) (now (counts .exit)) (now (rounds .exit)) (now (firsts .exit)) (now (work .exit))) ⌝ }
 {
-    let mut flat = [0u32; 50];
-    let n = looked_at(pairs.len());
-    flatten(pairs, n, &mut flat);
-    decode_flat(
+    let room = Room {
+        bits: bits.len(),
+        counts: counts.len(),
+        rounds: rounds.len(),
+        firsts: firsts.len(),
+        work: work.len(),
+    };
+    let told = batch_fault(code, rule, values.len(), pairs, room);
+    if turned_down(told) {
+        return told;
+    }
+    decode_records(
         code,
         rule,
-        limit,
         scale,
+        limit,
         values,
-        &flat,
-        n,
+        pairs,
         bits,
         counts,
+        rounds,
+        firsts,
         work,
-    )
-}
-
-// The batch over one record, of two numbers: a caller that makes a list of records.
-pub fn decode_one_pair(
-    code: u32,
-    rule: u32,
-    limit: u16,
-    scale: f32,
-    values: &[f32],
-    offset: u32,
-    length: u32,
-    bits: &mut [u8],
-    counts: &mut [u16],
-    work: &mut [f32],
-) -> Status
-    ensures { λ r. ⌜ statusOf r ≡ judged (batchRefusals code rule (now (values .entry)) (offset ∷ length ∷ []) (now (bits .entry)) (now (counts .entry)) (now (work .entry))) tt ⌝ }
-    ensures { λ _. ⌜ now (bits .exit) ≡ kept (batchRefusals code rule (now (values .entry)) (offset ∷ length ∷ []) (now (bits .entry)) (now (counts .entry)) (now (work .entry))) (now (bits .entry)) (batchBits code rule scale limit (now (values .entry)) (offset ∷ length ∷ [])) ⌝ }
-    ensures { λ _. ⌜ now (counts .exit) ≡ kept (batchRefusals code rule (now (values .entry)) (offset ∷ length ∷ []) (now (bits .entry)) (now (counts .entry)) (now (work .entry))) (now (counts .entry)) (batchCounts code rule scale limit (now (values .entry)) (offset ∷ length ∷ [])) ⌝ }
-    ensures { λ _. ⌜ now (work .exit) ≡ kept (batchRefusals code rule (now (values .entry)) (offset ∷ length ∷ []) (now (bits .entry)) (now (counts .entry)) (now (work .entry))) (now (work .entry)) (cleared (now (work .entry))) ⌝ }
-{
-    let pairs = [Pair {
-        offset: offset,
-        length: length,
-    }];
-    decode_pairs(code, rule, limit, scale, values, &pairs, bits, counts, work)
+    );
+    told
 }
