@@ -87,12 +87,21 @@ enum desklink_refusal {
     DESKLINK_GROUP_SIZES = -20      /* a group's size is 0, or the sizes do not add up to the number of pairs */
 };
 
-/* Sets the default control word, nearest, subnormals kept, exceptions masked, and gives the caller's. */
+/* Sets the default control word, nearest, subnormals kept, exceptions masked, and gives the caller's. Flags alone, the
+ * low six bits, change no result. */
 static inline uint32_t desklink_default_floats(void)
 {
     uint32_t callers = _mm_getcsr();
-    _mm_setcsr(0x1F80);
+    if ((callers & ~0x3Fu) != 0x1F80)
+        _mm_setcsr(0x1F80);
     return callers;
+}
+
+/* Puts the caller's control word back, flags included. */
+static inline void desklink_callers_floats(uint32_t callers)
+{
+    if (_mm_getcsr() != callers)
+        _mm_setcsr(callers);
 }
 
 /* The CRC-14 of the first num_bits bits of message, most significant bit first: 0 to 0x3FFF. */
@@ -121,7 +130,7 @@ DESKLINK_GUARDED int32_t desklink_ldpc_decode_soft(const float *llr, size_t llr_
     uint32_t callers = desklink_default_floats();
     int32_t answer = desklink_ldpc_decode_soft_unguarded(llr, llr_len, limit, plain, plain_len, rounds, first, work,
                                                          work_len);
-    _mm_setcsr(callers);
+    desklink_callers_floats(callers);
     return answer;
 }
 
@@ -143,7 +152,7 @@ DESKLINK_GUARDED int32_t desklink_decode_soft(uint32_t code, uint16_t limit, con
     uint32_t callers = desklink_default_floats();
     int32_t answer = desklink_decode_soft_unguarded(code, limit, llr, llr_len, bits, bits_len, rounds, first, work,
                                                     work_len);
-    _mm_setcsr(callers);
+    desklink_callers_floats(callers);
     return answer;
 }
 
@@ -158,7 +167,7 @@ DESKLINK_GUARDED int32_t desklink_decode_soft_with(uint32_t code, uint32_t rule,
     uint32_t callers = desklink_default_floats();
     int32_t answer = desklink_decode_soft_with_unguarded(code, rule, scale, limit, llr, llr_len, bits, bits_len,
                                                          rounds, first, work, work_len);
-    _mm_setcsr(callers);
+    desklink_callers_floats(callers);
     return answer;
 }
 
@@ -180,7 +189,7 @@ DESKLINK_GUARDED int32_t desklink_decode_batch(uint32_t code, uint32_t rule, uin
     int32_t answer = desklink_decode_batch_unguarded(code, rule, limit, scale, values, values_len, pairs, pairs_len,
                                                      bits, bits_len, counts, counts_len, rounds, rounds_len, firsts,
                                                      firsts_len, work, work_len);
-    _mm_setcsr(callers);
+    desklink_callers_floats(callers);
     return answer;
 }
 
@@ -202,7 +211,7 @@ DESKLINK_GUARDED int32_t desklink_decode_stored_batch(uint32_t code, uint32_t ru
     int32_t answer = desklink_decode_stored_batch_unguarded(code, rule, limit, scale, values, values_len, pairs,
                                                             pairs_len, bits, bits_len, counts, counts_len, rounds,
                                                             rounds_len, firsts, firsts_len, work, work_len);
-    _mm_setcsr(callers);
+    desklink_callers_floats(callers);
     return answer;
 }
 
@@ -229,7 +238,7 @@ DESKLINK_GUARDED int32_t desklink_decode_groups(uint32_t code, uint32_t rule, ui
     int32_t answer = desklink_decode_groups_unguarded(code, rule, limit, scale, values, values_len, pairs, pairs_len,
                                                       sizes, sizes_len, bits, bits_len, counts, counts_len, rounds,
                                                       rounds_len, firsts, firsts_len, work, work_len);
-    _mm_setcsr(callers);
+    desklink_callers_floats(callers);
     return answer;
 }
 
@@ -241,7 +250,7 @@ DESKLINK_GUARDED int32_t desklink_frame_clean(uint32_t code, const float *values
 {
     uint32_t callers = desklink_default_floats();
     int32_t answer = desklink_frame_clean_unguarded(code, values, values_len, count, bits, bits_len);
-    _mm_setcsr(callers);
+    desklink_callers_floats(callers);
     return answer;
 }
 
@@ -259,7 +268,7 @@ DESKLINK_GUARDED int32_t desklink_values_of_bytes(const int8_t *bytes, size_t by
 {
     uint32_t callers = desklink_default_floats();
     int32_t answer = desklink_values_of_bytes_unguarded(bytes, bytes_len, positive_is_one, values, values_len);
-    _mm_setcsr(callers);
+    desklink_callers_floats(callers);
     return answer;
 }
 int32_t desklink_bytes_of_values_unguarded(const float *values, size_t values_len, uint32_t positive_is_one,
@@ -269,7 +278,7 @@ DESKLINK_GUARDED int32_t desklink_bytes_of_values(const float *values, size_t va
 {
     uint32_t callers = desklink_default_floats();
     int32_t answer = desklink_bytes_of_values_unguarded(values, values_len, positive_is_one, bytes, bytes_len);
-    _mm_setcsr(callers);
+    desklink_callers_floats(callers);
     return answer;
 }
 

@@ -8,6 +8,9 @@ use std::arch::asm;
 /// Nearest, subnormals kept, exceptions masked, no flag raised: the word that a process starts with.
 const DEFAULT: u32 = 0x1F80;
 
+/// The flags that operations raise. They change no result.
+const FLAGS: u32 = 0x3F;
+
 /// While it lives, this thread computes under the default word. Dropped, it puts the caller's word back, flags included.
 pub(crate) struct DefaultFloats {
     callers: u32,
@@ -16,14 +19,18 @@ pub(crate) struct DefaultFloats {
 impl DefaultFloats {
     pub(crate) fn set() -> DefaultFloats {
         let callers = control_word();
-        set_control_word(DEFAULT);
+        if callers & !FLAGS != DEFAULT {
+            set_control_word(DEFAULT);
+        }
         DefaultFloats { callers }
     }
 }
 
 impl Drop for DefaultFloats {
     fn drop(&mut self) {
-        set_control_word(self.callers);
+        if control_word() != self.callers {
+            set_control_word(self.callers);
+        }
     }
 }
 

@@ -1,24 +1,51 @@
--- The lists that the batch over records takes, in a walk by hand: what is held of them, and the outputs as loans at any contents.
+-- What the batch over records takes, in a walk by hand: its numbers, and its lists with what is held of them.
+--     params           the parameters
+--     Numbers          the numbers, in their types
 --     Handles          by what each list is held
 --     Sizes            each list's length is a usize, and the records' bytes are
+--     handed           the batch
 --     outputs          the outputs and the work area, lent at the contents l, where at first they had m
---     left             what is left in them at the last values
---     Passed           the lists as they are passed, with their handles, contents and sizes
+--     mine             all of it, as arguments
+--     left             what is left in the outputs at the last values
+--     numbers-of, handles, contents, sizes-of         the same of what was passed
 use mathlib.Core.Path.{_≡_}
 use mathlib.Core.List.{List, [], _∷_}
 use Prim.Native.Nat.{ℕ, _<_, _^_}
-use lib.Ieee.{Float}
+use lib.Ieee.{Float, binary32}
 use lib.ListN.{length}
+use mir.Syntax.{w16, w32}
+use mir.Val.{vint, vfloat}
 use denote.Builtin.{u8, u16, f32}
+use denote.Laws.{Is}
 use denote.RattleType.{RattleType}
 use denote.Ref.{RefT, now}
 use denote.Slice.{Room, slice-vals}
 use contract.Lifetimes.{Lfts, Shares}
 use Rattle.walks.proofs.Lend.{Handle, handle}
-use Rattle.walks.proofs.Loans.{Loan, lend-slice}
-use Rattle.batch.specs.Calls.{Lent, lent}
+use Rattle.walks.proofs.Plain.{nat, real, datum}
+use Rattle.walks.proofs.Args.{Param, plain-param, shared-slice, kept-slice}
+use Rattle.walks.proofs.Loans.{Loan, hand, lend-slice, pass-slice}
+use Rattle.batch.specs.Calls.{Lent, lent, Batch, batch}
 use Rattle.records.specs.declared.Pair.{Pair}
+use Rattle.records.specs.Fields.{pairsOf}
 use Rattle.records.proofs.Types.{pair}
+
+abbrev pub params : List (Param 7)
+params = plain-param (nat w32) ∷ plain-param (nat w32) ∷ plain-param (nat w16) ∷ plain-param (real binary32) ∷ shared-slice 0 tt f32 ∷ shared-slice 1 tt (pair .row)
+    ∷ kept-slice 2 tt u8 ∷ kept-slice 3 tt u16 ∷ kept-slice 4 tt u16 ∷ kept-slice 5 tt u16 ∷ kept-slice 6 tt f32 ∷ []
+
+pub record Numbers : Type 0 where
+  pub code : ℕ
+  pub rule : ℕ
+  pub limit : ℕ
+  pub scale : Float
+  pub code-is : Is (nat w32 .row) code (vint w32 code ∷ [])
+  pub rule-is : Is (nat w32 .row) rule (vint w32 rule ∷ [])
+  pub limit-is : Is (nat w16 .row) limit (vint w16 limit ∷ [])
+  pub scale-is : Is (real binary32 .row) scale (vfloat binary32 scale ∷ [])
+
+abbrev pub handed : Numbers → List Float → List Pair → Lent → Batch
+handed n vs ys m = batch (n .code) (n .rule) (n .limit) (n .scale) vs (pairsOf ys) m
 
 pub record Handles : Type 0 where
   pub values : Handle
@@ -44,7 +71,16 @@ module _ (h : Handles) {vs : List Float} {ys : List Pair} {m : Lent} (fit : Size
       ∷ lend-slice u16 (h .rounds) (length (m .rounds)) (fit .rounds) (l .rounds) ∷ lend-slice u16 (h .firsts) (length (m .firsts)) (fit .firsts) (l .firsts)
       ∷ lend-slice f32 (h .work) (length (m .work)) (fit .work) (l .work) ∷ []
 
--- the last values of the outputs
+module _ (n : Numbers) (h : Handles) {vs : List Float} {ys : List Pair} {m : Lent} (fit : Sizes vs ys m) where
+  -- the numbers and the values, before what else is handed over
+  abbrev pub numbered : List Loan → List Loan
+  numbered ls = hand (datum (nat w32) (n .code) (n .code-is)) ∷ hand (datum (nat w32) (n .rule) (n .rule-is)) ∷ hand (datum (nat w16) (n .limit) (n .limit-is))
+      ∷ hand (datum (real binary32) (n .scale) (n .scale-is)) ∷ pass-slice f32 (h .values) (length vs) (fit .values) vs ∷ ls
+
+  abbrev pub mine : Lent → List Loan
+  mine l = numbered (pass-slice (pair .row) (h .pairs) (length ys) (fit .pairs .0) ys ∷ outputs h fit l)
+
+-- the last values of the outputs, and of all
 abbrev pub Lasts : Type 0
 Lasts = List ℕ × (List ℕ × (List ℕ × (List ℕ × (List Float × Unit {0}))))
 
@@ -54,7 +90,14 @@ left ws = lent (ws .0) (ws .1 .0) (ws .1 .1 .0) (ws .1 .1 .1 .0) (ws .1 .1 .1 .1
 abbrev pub lasts-of : Lent → Lasts
 lasts-of l = (l .bits, (l .counts, (l .rounds, (l .firsts, (l .work, tt)))))
 
--- ---- the lists as they are passed, each at a lifetime of its own
+abbrev pub all-lasts : Lasts → Unit {0} × (Unit {0} × (Unit {0} × (Unit {0} × (Unit {0} × (Unit {0} × Lasts)))))
+all-lasts ws = (tt, (tt, (tt, (tt, (tt, (tt, ws))))))
+
+-- ---- what was passed, each list at a lifetime of its own
+abbrev pub numbers-of : (code rule limit : ℕ) (scale : Float) → Is (nat w32 .row) code (vint w32 code ∷ []) → Is (nat w32 .row) rule (vint w32 rule ∷ [])
+    → Is (nat w16 .row) limit (vint w16 limit ∷ []) → Is (real binary32 .row) scale (vfloat binary32 scale ∷ []) → Numbers
+numbers-of code rule limit scale c r l s = record { code = code; rule = rule; limit = limit; scale = scale; code-is = c; rule-is = r; limit-is = l; scale-is = s }
+
 abbrev pub Passed : Type 0
 Passed = RefT (List Float) × (RefT (List Pair) × (RefT (List ℕ) × (RefT (List ℕ) × (RefT (List ℕ) × (RefT (List ℕ) × (RefT (List Float) × Unit {0}))))))
 

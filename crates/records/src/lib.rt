@@ -60,8 +60,8 @@ pub fn batch_fault(code: u32, rule: u32, values: usize, pairs: &[Pair], room: Ro
 fn decode_record(
     code: u32,
     rule: u32,
-    scale: f32,
     limit: u16,
+    scale: f32,
     values: &[f32],
     p: Pair,
     j: usize,
@@ -96,8 +96,8 @@ fn decode_record(
 fn decode_records(
     code: u32,
     rule: u32,
-    scale: f32,
     limit: u16,
+    scale: f32,
     values: &[f32],
     pairs: &[Pair],
     bits: &mut [u8],
@@ -118,8 +118,8 @@ fn decode_records(
         decode_record(
             code,
             rule,
-            scale,
             limit,
+            scale,
             values,
             p,
             j,
@@ -168,8 +168,8 @@ pub fn decode_pairs(
     decode_records(
         code,
         rule,
-        scale,
         limit,
+        scale,
         values,
         pairs,
         bits,

@@ -24,20 +24,20 @@ use contract.Running.{givenOf, tables, tablesOf}
 use types.Kit.{Given, Item, ‵, atRet, _$_, !, by, move}
 use types.Run.{of-opd, bin, lit, unit-lit, first, blocks, loops, again, stays as goes-on, leaves-loop, exec}
 use sound.WpLaws.{fmOf}
-use denote.Builtin.{u8, u16, f32}
+use denote.Builtin.{f32}
 use denote.Laws.{Is}
 use denote.Ref.{now}
 use denote.Triple.Statement.{Triple}
 use denote.Triple.Spec.{Meets, tripleOf}
 use denote.Triple.Table.{entered, cited}
-use Rattle.walks.proofs.Plain.{nat, real, nothing, datum}
-use Rattle.walks.proofs.Args.{bound, typed, hands, Param, plain-param, shared-slice, kept-slice, stays, all-go, all-spell, all-tell, haves}
+use Rattle.walks.proofs.Plain.{nothing, datum}
+use Rattle.walks.proofs.Args.{bound, typed, hands, stays, all-go, all-spell, all-tell, haves}
 use Rattle.walks.proofs.Calls.{Callee}
 use Rattle.walks.proofs.Elements.{reads-element}
 use Rattle.walks.proofs.Frame.{empty, full, frame, Blocks, spots, begins, count, var, loc, args, sets, sets-as, sets-last, stores-plain, passes-on}
 use Rattle.walks.proofs.Frame.{forgets-from, returns-all}
 use Rattle.walks.proofs.Lend.{counted}
-use Rattle.walks.proofs.Loans.{Loan, hand, give, lend-slice, pass-slice, LastValues, held, lent-args, takes, calls-lent, own-args, gathers, scatters}
+use Rattle.walks.proofs.Loans.{Loan, hand, give, lend-slice, LastValues, held, lent-args, takes, calls-lent, own-args, gathers, scatters}
 use Rattle.walks.proofs.Walk.{Post, Walk, walking, meets-by}
 use Rattle.batch.specs.Codes.{sizeN, sizeK}
 use Rattle.batch.specs.Pairs as named
@@ -52,7 +52,7 @@ use Rattle.batch.proofs.clear_area.Met as clear-thm
 use Rattle.records.specs.declared.Pair.{Pair}
 use Rattle.records.specs.Fields.{pairOf, pairsOf}
 use Rattle.records.proofs.Types.{pair, none}
-use Rattle.records.proofs.Lists.{Handles, Sizes, outputs, left, handles, contents, sizes-of}
+use Rattle.records.proofs.Lists.{params, Numbers, Handles, Sizes, handed, outputs, numbered, mine, left, lasts-of, all-lasts, numbers-of, handles, contents, sizes-of}
 use Rattle.records.proofs.decode_record as place
 use Rattle.records.proofs.decode_record.Symbol as place-def
 use Rattle.records.proofs.decode_record.Symbol.{name as #records·decode-record}
@@ -62,19 +62,19 @@ use Rattle.records.proofs.decode_records as this
 use Rattle.records.proofs.decode_records.Statement as stated
 use Rattle.records.proofs.decode_records.Code as code-of
 
-abbrev params : List (Param 7)
-params = plain-param (nat w32) ∷ plain-param (nat w32) ∷ plain-param (real binary32) ∷ plain-param (nat w16) ∷ shared-slice 0 tt f32 ∷ shared-slice 1 tt (pair .row)
-    ∷ kept-slice 2 tt u8 ∷ kept-slice 3 tt u16 ∷ kept-slice 4 tt u16 ∷ kept-slice 5 tt u16 ∷ kept-slice 6 tt f32 ∷ []
-
 -- ---- where the loop stands: j frames are decoded
 record Turn (b : Batch) : Type 0 where
   j : ℕ
   memory : Lent
   going : Going b j memory
 
-module _ (code rule limit : ℕ) (scale : Float) (vs : List Float) (ys : List Pair) (m : Lent) where
+module _ (n : Numbers) (vs : List Float) (ys : List Pair) (m : Lent) where
   abbrev b : Batch
-  b = batch code rule limit scale vs (pairsOf ys) m
+  b = handed n vs ys m
+
+  -- the memory with the frame from an offset on at place j
+  abbrev frame-placed : Turn b → ℕ → Lent
+  frame-placed t o = placed (frameDecode b (named.frameOf vs (named.pair o (sizeN (n .code))))) (n .limit) (sizeK (n .code)) (t .j) (t .memory)
 
   module _ (fit : Fitting b) (t : Turn b) where
     abbrev offset : ℕ
@@ -88,17 +88,11 @@ module _ (code rule limit : ℕ) (scale : Float) (vs : List Float) (ys : List Pa
       there : t .j < length (pairsOf ys)
       there = simp length-map p
 
-      ready : PlaceFits code offset (t .j) vs (t .memory)
-      ready = subst (λ (o : ℕ). PlaceFits code o (t .j) vs (t .memory)) offset-is (going-fits fit (t .going) there)
+      ready : PlaceFits (n .code) offset (t .j) vs (t .memory)
+      ready = subst (λ (o : ℕ). PlaceFits (n .code) o (t .j) vs (t .memory)) offset-is (going-fits fit (t .going) there)
 
-      abbrev one-more : (l : Lent) → l ≡ placed (frameDecode b (named.frameOf vs (named.pair offset (sizeN code)))) limit (sizeK code) (t .j) (t .memory)
-          → length (l .bits) ≡ length (t .memory .bits) → Turn b
-      one-more l e same = record {
-        j = t .j + 1;
-        memory = l;
-        going = going-more fit (t .going) there (e ∙ ap (λ (o : ℕ). placed (frameDecode b (named.frameOf vs (named.pair o (sizeN code)))) limit (sizeK code) (t .j) (t .memory))
-            (sym offset-is)) same;
-      }
+      abbrev one-more : (l : Lent) → l ≡ frame-placed t offset → length (l .bits) ≡ length (t .memory .bits) → Turn b
+      one-more l e same = record { j = t .j + 1; memory = l; going = going-more fit (t .going) there (e ∙ ap (frame-placed t) (sym offset-is)) same }
 
     all-done : (t .j < length ys → ⊥) → {work : List Float} → work ≡ cleared (t .memory .work)
         → lent (t .memory .bits) (t .memory .counts) (t .memory .rounds) (t .memory .firsts) work ≡ written b
@@ -112,22 +106,16 @@ left-over {b} t = length (b .pairs) - t .j
 module _ {M : Type 1} (𝓤 : URA M) (H : Heap 𝓤) (A : Atoms 𝓤) (W : Given 𝓤 H A) (mem : Memory → SProp 𝓤) (run : Routine → Fun 𝓤) (𝓣 : Tables 𝓤 H)
     (known-place : Triple 𝓤 (𝓣 .C #records·decode-record) (Callee 𝓤 H A place.ended (place.clauses 𝓤 H A mem run)))
     (known-clear : Triple 𝓤 (𝓣 .C #batch·clear-area) (Callee 𝓤 H A clear.ended (clear.clauses 𝓤 H A mem run))) where
-  module _ (h : Handles) (code rule limit : ℕ) (scale : Float) (vs : List Float) (ys : List Pair) (m : Lent) (code-is : Is (nat w32 .row) code (vint w32 code ∷ []))
-      (rule-is : Is (nat w32 .row) rule (vint w32 rule ∷ [])) (scale-is : Is f32 scale (vfloat binary32 scale ∷ [])) (limit-is : Is u16 limit (vint w16 limit ∷ []))
-      (sizes : Sizes vs ys m) (fit : Fitting (b code rule limit scale vs ys m)) where
+  module _ (n : Numbers) (h : Handles) (vs : List Float) (ys : List Pair) (m : Lent) (sizes : Sizes vs ys m) (fit : Fitting (b n vs ys m)) where
     abbrev B : Batch
-    B = b code rule limit scale vs ys m
+    B = b n vs ys m
 
-    -- the arguments, at the contents l of the outputs, and those of the calls
-    abbrev numbers : List Loan → List Loan
-    numbers ls = hand (datum (nat w32) code code-is) ∷ hand (datum (nat w32) rule rule-is) ∷ hand (datum (real binary32) scale scale-is)
-        ∷ hand (datum (nat w16) limit limit-is) ∷ pass-slice f32 (h .values) (length vs) (sizes .values) vs ∷ ls
-
-    abbrev mine : Lent → List Loan
-    mine l = numbers (pass-slice (pair .row) (h .pairs) (length ys) (sizes .pairs .0) ys ∷ outputs h sizes l)
+    -- the arguments, and those of the calls
+    abbrev own : Lent → List Loan
+    own l = mine n h sizes l
 
     abbrev to-place : (t : Turn B) → t .j < length ys → Is (pair .row) (getD ys (t .j) none) (pair .val (getD ys (t .j) none) ∷ []) → List Loan
-    to-place t p g = numbers (hand (datum pair (getD ys (t .j) none) g)
+    to-place t p g = numbered n h sizes (hand (datum pair (getD ys (t .j) none) g)
         ∷ give (t .j) (omega (arith, p, sizes .pairs .0)) ∷ outputs h sizes (t .memory))
 
     abbrev to-clear : Lent → List Loan
@@ -135,21 +123,21 @@ module _ {M : Type 1} (𝓤 : URA M) (H : Heap 𝓤) (A : Atoms 𝓤) (W : Given
 
     -- what is held at a turn: the locals and the lists
     abbrev At : Blocks (code-of.function .locals) → Turn B → List (Item 𝓤)
-    At bs t = ‵ (frame (spots (code-of.function .locals) bs) (empty ∷ full (vint w32 code) ∷ full (vint w32 rule) ∷ full (vfloat binary32 scale) ∷ full (vint w16 limit)
+    At bs t = ‵ (frame (spots (code-of.function .locals) bs) (empty ∷ full (vint w32 (n .code)) ∷ full (vint w32 (n .rule)) ∷ full (vint w16 (n .limit)) ∷ full (vfloat binary32 (n .scale))
         ∷ full (counted (h .values) (length vs)) ∷ full (counted (h .pairs) (length ys)) ∷ full (counted (h .bits) (length (m .bits)))
         ∷ full (counted (h .counts) (length (m .counts))) ∷ full (counted (h .rounds) (length (m .rounds))) ∷ full (counted (h .firsts) (length (m .firsts)))
-        ∷ full (counted (h .work) (length (m .work))) ∷ full (vint w64 (t .j)) ∷ replicate 19 empty)) ∷ held 𝓤 (mine (t .memory))
+        ∷ full (counted (h .work) (length (m .work))) ∷ full (vint w64 (t .j)) ∷ replicate 19 empty)) ∷ held 𝓤 (own (t .memory))
 
     -- the last values, where the work area has w
-    abbrev lasts : Lent → List Float → LastValues (mine m)
-    lasts l w = (tt, (tt, (tt, (tt, (tt, (tt, (l .bits, (l .counts, (l .rounds, (l .firsts, (w, tt)))))))))))
+    abbrev lasts : Lent → List Float → LastValues (own m)
+    lasts l w = all-lasts (lasts-of (lent (l .bits) (l .counts) (l .rounds) (l .firsts) w))
 
     abbrev begun : Turn B
     begun = record { j = 0; memory = m; going = going-none fit }
 
-    walk : Walk W this.ended (stays params) (this.clauses 𝓤 H A mem run) 𝓣 code-of.function (bound (own-args (mine m))) tt
+    walk : Walk W this.ended (stays params) (this.clauses 𝓤 H A mem run) 𝓣 code-of.function (bound (own-args (own m))) tt
     unfolding afterTurn
-    walk = walking (λ end. begins ! (typed 𝓤 H A W (own-args (mine m))) (λ bs. gathers ! (mine m) $
+    walk = walking (λ end. begins ! (typed 𝓤 H A W (own-args (own m))) (λ bs. gathers ! (own m) $
         sets ! (of-opd ! (lit ! tt)) tt (tt, record { fits = lit< tt }) $
         first ! $ blocks ! $ loops ! 𝓣 (λ x y. left-over x < left-over y) (InvImage·wf left-over (Nat·lt-wfRel .wf)) (At bs) (λ t. elim (decLt (t .j) (length ys)) [
           | yes p ↦
@@ -162,20 +150,20 @@ module _ {M : Type 1} (𝓤 : URA M) (H : Heap 𝓤) (A : Atoms 𝓤) (W : Given
               passes-on ! refl tt tt (sizes .firsts) $ passes-on ! refl tt tt (sizes .work) $ move ! (0 ∷ 2 ∷ 3 ∷ 4 ∷ 5 ∷ 6 ∷ 7 ∷ []) $
               calls-lent W (fmOf 𝓤 H (W .laws) 𝓣) place.ended (place.clauses 𝓤 H A mem run) known-place (to-place t p g)
               (takes (λ ν. bound (lent-args (to-place t p g) ν)) (λ ν. tt) (λ ν. hands 𝓤 H A W (lent-args (to-place t p g) ν)) (λ ν ws. ws) (λ ν. refl) (λ ν ws. refl))
-              (λ ν. factI 𝓤 _ (emp 𝓤) (ready code rule limit scale vs ys m fit t p))
+              (λ ν. factI 𝓤 _ (emp 𝓤) (ready n vs ys m fit t p))
               (λ ν _ ws. left (ws .1 .1 .1 .1 .1 .1 .1)
-              ≡ placed (frameDecode B (named.frameOf vs (named.pair (getD ys (t .j) none .offset) (sizeN code)))) limit (sizeK code) (t .j) (t .memory)) (λ ν _ ws. id⊢ 𝓤 _)
+              ≡ frame-placed n vs ys m t (getD ys (t .j) none .offset)) (λ ν _ ws. id⊢ 𝓤 _)
               ! (λ ν. args ! (loc 1 ∷ loc 2 ∷ loc 3 ∷ loc 4 ∷ loc 5 ∷ loc 13 ∷ loc 12 ∷ loc 20 ∷ loc 22 ∷ loc 24 ∷ loc 26 ∷ loc 28 ∷ []) refl)
               (λ ν v _ ws e same. stores-plain ! nothing tt (e .0) tt refl $ move ! (0 ∷ 1 ∷ 7 ∷ []) $
               sets-last ! (bin ! (var ! refl) (lit ! tt) (record { fits = omega (arith, p, sizes .pairs .0) })) refl tt
               (tt, record { fits = omega (arith, p, sizes .pairs .0) }) $
               forgets-from ! 13 $ again ! (λ x y. left-over x < left-over y) (At bs) t
-              (one-more code rule limit scale vs ys m fit t p (left (ws .1 .1 .1 .1 .1 .1 .1)) (e .1) (same .1 .0)) (omega (arith, there code rule limit scale vs ys m fit t p))))
+              (one-more n vs ys m fit t p (left (ws .1 .1 .1 .1 .1 .1 .1)) (e .1) (same .1 .0)) (omega (arith, there n vs ys m fit t p))))
           | no p ↦
               sets ! (of-opd ! (count 6 refl refl !)) tt (tt, record { fits = sizes .pairs .0 }) $
               sets-as ! (bin ! (var ! refl) (var ! refl) tt) (ap vbool (le-ltb (t .j) (length ys) (omega (arith, p)))) tt (tt, tt) $ leaves-loop ! (var ! refl) $
               exec ! (𝓣 .C) (𝓣 .Λ) (spots (code-of.function .locals) bs) code-of.Mir.t-3
-              (atRet (spots (code-of.function .locals) bs) (Post 𝓤 H A this.ended (stays params) (this.clauses 𝓤 H A mem run) (bound (own-args (mine m))) tt)) $
+              (atRet (spots (code-of.function .locals) bs) (Post 𝓤 H A this.ended (stays params) (this.clauses 𝓤 H A mem run) (bound (own-args (own m))) tt)) $
               -- the work area is cleared
               passes-on ! refl tt tt (sizes .work) $ move ! (0 ∷ 7 ∷ []) $
               calls-lent W (fmOf 𝓤 H (W .laws) 𝓣) clear.ended (clear.clauses 𝓤 H A mem run) known-clear (to-clear (t .memory))
@@ -183,9 +171,9 @@ module _ {M : Type 1} (𝓤 : URA M) (H : Heap 𝓤) (A : Atoms 𝓤) (W : Given
               (λ ν. factI 𝓤 _ (emp 𝓤) (omega (arith, fit .area, t .going .wide))) (λ ν _ ws. ws .0 ≡ cleared (t .memory .work)) (λ ν _ ws. id⊢ 𝓤 _)
               ! (λ ν. args ! (loc 31 ∷ []) refl) (λ ν v _ ws e same. stores-plain ! nothing tt (e .0) tt refl $
               sets ! (of-opd ! (unit-lit !)) tt (tt, tt) $ returns-all ! refl tt $ move ! (1 ∷ 2 ∷ 3 ∷ 4 ∷ 5 ∷ 6 ∷ 0 ∷ []) $
-              scatters ! (mine m) (lasts (t .memory) (ws .0)) $
+              scatters ! (own m) (lasts (t .memory) (ws .0)) $
               by ! (end vunit tt (lasts (t .memory) (ws .0))
-              (haves 𝓤 H A params (bound (own-args (mine m)) .0) (bound (own-args (mine m)) .3) (lasts (t .memory) (ws .0)) (bound (own-args (mine m)) .4))
+              (haves 𝓤 H A params (bound (own-args (own m)) .0) (bound (own-args (own m)) .3) (lasts (t .memory) (ws .0)) (bound (own-args (own m)) .4))
               (nothing .makes 𝓤 H A W tt _ refl) (
                 tt,
                 (
@@ -214,14 +202,15 @@ module _ {M : Type 1} (𝓤 : URA M) (H : Heap 𝓤) (A : Atoms 𝓤) (W : Given
                   ),
                 ),
               )
-              (factI 𝓤 _ (emp 𝓤) (all-done code rule limit scale vs ys m fit t p (e .1)))))
+              (factI 𝓤 _ (emp 𝓤) (all-done n vs ys m fit t p (e .1)))))
         ]) begun))
 
   meets : Meets 𝓤 H A this.signature (WpFn 𝓤 H (𝓣 .C) (𝓣 .Λ) code-of.function) (this.spec 𝓤 H A mem run)
   meets = meets-by W this.ended (stays params) (this.clauses 𝓤 H A mem run) 𝓣 code-of.function (all-spell params) (all-tell params) (all-go 𝓤 H A W params)
-      (λ κs a. Fitting (b (a .0) (a .1 .0) (a .1 .1 .1 .0) (a .1 .1 .0) (now (a .1 .1 .1 .1 .0)) (now (a .1 .1 .1 .1 .1 .0)) (contents (a .1 .1 .1 .1)))) (λ κs a g. id⊢ 𝓤 _)
-      (λ κs qs _ a g are ok. walk (handles (a .1 .1 .1 .1) κs qs) (a .0) (a .1 .0) (a .1 .1 .1 .0) (a .1 .1 .0) (now (a .1 .1 .1 .1 .0)) (now (a .1 .1 .1 .1 .1 .0))
-      (contents (a .1 .1 .1 .1)) (are .0) (are .1 .0) (are .1 .1 .0) (are .1 .1 .1 .0) (sizes-of (a .1 .1 .1 .1) (are .1 .1 .1 .1)) ok)
+      (λ κs a. Fitting (batch (a .0) (a .1 .0) (a .1 .1 .0) (a .1 .1 .1 .0) (now (a .1 .1 .1 .1 .0)) (pairsOf (now (a .1 .1 .1 .1 .1 .0))) (contents (a .1 .1 .1 .1))))
+      (λ κs a g. id⊢ 𝓤 _)
+      (λ κs qs _ a g are ok. walk (numbers-of (a .0) (a .1 .0) (a .1 .1 .0) (a .1 .1 .1 .0) (are .0) (are .1 .0) (are .1 .1 .0) (are .1 .1 .1 .0))
+      (handles (a .1 .1 .1 .1) κs qs) (now (a .1 .1 .1 .1 .0)) (now (a .1 .1 .1 .1 .1 .0)) (contents (a .1 .1 .1 .1)) (sizes-of (a .1 .1 .1 .1) (are .1 .1 .1 .1)) ok)
 
 pub decode-records-spec : {M : Type 1} → stated.statement M
 unfolding code-of.routine tablesOf
