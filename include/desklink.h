@@ -193,8 +193,35 @@ DESKLINK_GUARDED int32_t desklink_decode_batch(uint32_t code, uint32_t rule, uin
     return answer;
 }
 
-/* The same of a batch that was stored when rule 3 stood for rule 0: 3 is taken as 0, and every other number as it
- * is. */
+/* A pair: where a frame's values begin, and how many they are. */
+struct desklink_pair {
+    uint32_t offset;
+    uint32_t length;
+};
+
+/* The same, with the pairs as records; pairs_len counts them, at most DESKLINK_MAX_PAIRS. */
+int32_t desklink_decode_pairs_unguarded(uint32_t code, uint32_t rule, uint16_t limit, float scale,
+                                        const float *values, size_t values_len, const struct desklink_pair *pairs,
+                                        size_t pairs_len, uint8_t *bits, size_t bits_len, uint16_t *counts,
+                                        size_t counts_len, uint16_t *rounds, size_t rounds_len, uint16_t *firsts,
+                                        size_t firsts_len, float *work, size_t work_len);
+DESKLINK_GUARDED int32_t desklink_decode_pairs(uint32_t code, uint32_t rule, uint16_t limit, float scale,
+                                               const float *values, size_t values_len,
+                                               const struct desklink_pair *pairs, size_t pairs_len, uint8_t *bits,
+                                               size_t bits_len, uint16_t *counts, size_t counts_len,
+                                               uint16_t *rounds, size_t rounds_len, uint16_t *firsts,
+                                               size_t firsts_len, float *work, size_t work_len)
+{
+    uint32_t callers = desklink_default_floats();
+    int32_t answer = desklink_decode_pairs_unguarded(code, rule, limit, scale, values, values_len, pairs, pairs_len,
+                                                     bits, bits_len, counts, counts_len, rounds, rounds_len, firsts,
+                                                     firsts_len, work, work_len);
+    desklink_callers_floats(callers);
+    return answer;
+}
+
+/* desklink_decode_batch of a batch that was stored when rule 3 stood for rule 0: 3 is taken as 0, and every other
+ * number as it is. */
 int32_t desklink_decode_stored_batch_unguarded(uint32_t code, uint32_t rule, uint16_t limit, float scale,
                                                const float *values, size_t values_len, const uint32_t *pairs,
                                                size_t pairs_len, uint8_t *bits, size_t bits_len, uint16_t *counts,

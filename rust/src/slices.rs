@@ -3,6 +3,8 @@ use crate::floats::DefaultFloats;
 use crate::Refusal;
 
 mod ffi {
+    use super::Pair;
+
     extern "C" {
         pub fn desklink_ft8_crc14(message: *const u8, message_len: usize, num_bits: usize) -> i32;
         pub fn desklink_ft8_add_crc(payload: *const u8, payload_len: usize, a91: *mut u8, a91_len: usize) -> i32;
@@ -56,6 +58,26 @@ mod ffi {
             values: *const f32,
             values_len: usize,
             pairs: *const u32,
+            pairs_len: usize,
+            bits: *mut u8,
+            bits_len: usize,
+            counts: *mut u16,
+            counts_len: usize,
+            rounds: *mut u16,
+            rounds_len: usize,
+            firsts: *mut u16,
+            firsts_len: usize,
+            work: *mut f32,
+            work_len: usize,
+        ) -> i32;
+        pub fn desklink_decode_pairs_unguarded(
+            code: u32,
+            rule: u32,
+            limit: u16,
+            scale: f32,
+            values: *const f32,
+            values_len: usize,
+            pairs: *const Pair,
             pairs_len: usize,
             bits: *mut u8,
             bits_len: usize,
@@ -286,9 +308,26 @@ pub struct Outputs<'a> {
     pub firsts: &'a mut [u16],
 }
 
-/// One of the batch calls of the library, on Rust's slices, with a further list where it takes one.
+/// A pair: where a frame's values begin, and how many they are.
+#[repr(C)]
+#[derive(Debug, Clone, Copy, PartialEq, Eq)]
+pub struct Pair {
+    /// The place of the frame's first value.
+    pub offset: u32,
+    /// How many values it has, which is the code's N.
+    pub length: u32,
+}
+
+impl From<[u32; 2]> for Pair {
+    fn from([offset, length]: [u32; 2]) -> Pair {
+        Pair { offset, length }
+    }
+}
+
+/// One of the batch calls of the library, on Rust's slices: it takes pairs of that type, passes them as they are seen, and takes a further list where it
+/// has one.
 macro_rules! batch_call {
-    ($(#[$text:meta])* $name:ident $foreign:ident $($list:ident)?) => {
+    ($(#[$text:meta])* $name:ident($pairs:ident: $pair:ty) $foreign:ident $seen:expr $(, $list:ident)?) => {
         $(#[$text])*
         #[allow(clippy::too_many_arguments)]
         pub fn $name(
@@ -297,12 +336,12 @@ macro_rules! batch_call {
             limit: u16,
             scale: f32,
             values: &[f32],
-            pairs: &[[u32; 2]],
+            $pairs: &[$pair],
             $($list: &[u32],)?
             out: Outputs<'_>,
             work: &mut [f32],
         ) -> Result<(), Refusal> {
-            let pairs = pairs.as_flattened();
+            let pairs = $seen;
             let _floats = DefaultFloats::set();
             answer(unsafe {
                 ffi::$foreign(
@@ -334,18 +373,23 @@ macro_rules! batch_call {
 
 batch_call! {
     /// Many frames of one code: each pair is an offset into `values` and a length, which is N.
-    decode_batch desklink_decode_batch_unguarded
+    decode_batch(pairs: [u32; 2]) desklink_decode_batch_unguarded pairs.as_flattened()
 }
 
 batch_call! {
-    /// The same of a batch that was stored when rule 3 stood for rule 0: 3 is taken as 0, and every other number as it is.
-    decode_stored_batch desklink_decode_stored_batch_unguarded
+    /// The same with the pairs as records.
+    decode_pairs(pairs: Pair) desklink_decode_pairs_unguarded pairs
 }
 
 batch_call! {
-    /// The same with groups: `sizes` has the number of frames of each group in turn, in place order. A group whose frames are all clean has its bits;
+    /// [`decode_batch`] of a batch that was stored when rule 3 stood for rule 0: 3 is taken as 0, and every other number as it is.
+    decode_stored_batch(pairs: [u32; 2]) desklink_decode_stored_batch_unguarded pairs.as_flattened()
+}
+
+batch_call! {
+    /// [`decode_batch`] with groups: `sizes` has the number of frames of each group in turn, in place order. A group whose frames are all clean has its bits;
     /// all bit bytes of any other are 255. With no sizes this is [`decode_batch`].
-    decode_groups desklink_decode_groups_unguarded sizes
+    decode_groups(pairs: [u32; 2]) desklink_decode_groups_unguarded pairs.as_flattened(), sizes
 }
 
 /// Whether a frame is clean, with the count and the K bits that a decode of its N values gave: its count is 0, none of its values is NaN and, for

@@ -219,6 +219,7 @@ fn batch() {
         let (bits_before, held) = (random.bytes(bit_places), (0..area).map(|_| random.pattern()).collect::<Vec<f32>>());
         let numbers_before = places.map(|n| (0..n).map(|_| random.next() as u16).collect::<Vec<u16>>());
         let (mut bits, mut numbers, mut work) = (bits_before.clone(), numbers_before.clone(), held.clone());
+        let (mut bits2, mut numbers2, mut work2) = (bits_before.clone(), numbers_before.clone(), held.clone());
         let expected = first(&[
             (code > 3, Refusal::UnknownCode),
             (rule > 4, Refusal::UnknownRule),
@@ -231,7 +232,14 @@ fn batch() {
         .or_else(|| pair_fault(n, values.len(), &pairs));
         let [counts, rounds, firsts] = &mut numbers;
         let out = slices::Outputs { bits: &mut bits, counts, rounds, firsts };
-        if expect(slices::decode_batch(code, rule, 2, 0.5, &values, &pairs, out, &mut work), expected) {
+        let answer = slices::decode_batch(code, rule, 2, 0.5, &values, &pairs, out, &mut work);
+        // the same over records
+        let records: Vec<slices::Pair> = pairs.iter().map(|&pair| pair.into()).collect();
+        let [counts, rounds, firsts] = &mut numbers2;
+        let out = slices::Outputs { bits: &mut bits2, counts, rounds, firsts };
+        assert_eq!(slices::decode_pairs(code, rule, 2, 0.5, &values, &records, out, &mut work2), answer);
+        assert!(bits2 == bits && numbers2 == numbers && same_bits(&work2, &work));
+        if expect(answer, expected) {
             assert!(bits == bits_before && numbers == numbers_before && same_bits(&work, &held));
         } else {
             assert!(bits.iter().all(|&b| b == 0));

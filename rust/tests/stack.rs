@@ -45,6 +45,9 @@ fn batch() {
         on_small_stack(move || {
             let out = slices::Outputs { bits: &mut bits, counts: &mut counts, rounds: &mut rounds, firsts: &mut firsts };
             slices::decode_groups(code, 0, 5, 1.0, &values, &pairs, &[20, 4], out, &mut work).unwrap();
+            let records: Vec<slices::Pair> = pairs.iter().map(|&pair| pair.into()).collect();
+            let out = slices::Outputs { bits: &mut bits, counts: &mut counts, rounds: &mut rounds, firsts: &mut firsts };
+            slices::decode_pairs(code, 0, 5, 1.0, &values, &records, out, &mut work).unwrap();
         });
     }
 }

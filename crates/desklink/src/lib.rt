@@ -1,5 +1,6 @@
 // The C interface: each call on numbers and slices, its answer one signed number. What more a call tells goes through the references lent for it.
 use decoders::Decoding;
+use records::Pair;
 use refusal::Answer;
 use refusal::Refusal;
 use refusal::Status;
@@ -24,6 +25,7 @@ ghost use Rattle.ldpc_codes.specs.Calls as staircase·calls;
 ghost use Rattle.decoders.specs.Calls as decoders·calls;
 ghost use Rattle.batch.specs.Pairs.{pairsOf};
 ghost use Rattle.batch.specs.Calls as batch·calls;
+ghost use Rattle.records.specs.Fields as records·fields;
 ghost use Rattle.eighths.specs.Calls.{bytesRefusals, valuesRefusals, valuesOf, bytesOf};
 ghost use Rattle.erasure.specs.Filling.{filledWord, filledPlaces, listed};
 ghost use Rattle.erasure.specs.Calls.{checksBy, erasureRefusals};
@@ -259,7 +261,43 @@ pub extern "C" fn desklink_decode_batch_unguarded(
     ))
 }
 
-// The same of a batch that was stored when rule 3 stood for rule 0.
+// The same over a list of pair records.
+#[no_mangle]
+pub extern "C" fn desklink_decode_pairs_unguarded(
+    code: u32,
+    rule: u32,
+    limit: u16,
+    scale: f32,
+    values: &[f32],
+    pairs: &[Pair],
+    bits: &mut [u8],
+    counts: &mut [u16],
+    rounds: &mut [u16],
+    firsts: &mut [u16],
+    work: &mut [f32],
+) -> i32
+    ensures { λ n. ⌜ BatchCall
+        (batch·calls.batch code rule limit scale (now (values .entry)) (records·fields.pairsOf (now (pairs .entry)))
+        (batch·calls.lent (now (bits .entry)) (now (counts .entry)) (now (rounds .entry)) (now (firsts .entry)) (now (work .entry))))
+        n
+        (batch·calls.lent (now (bits .exit)) (now (counts .exit)) (now (rounds .exit)) (now (firsts .exit)) (now (work .exit))) ⌝ }
+{
+    status_code(records::decode_pairs(
+        code,
+        rule,
+        limit,
+        scale,
+        values,
+        pairs,
+        bits,
+        counts,
+        rounds,
+        firsts,
+        work,
+    ))
+}
+
+// The batch over flat slices, of a batch that was stored when rule 3 stood for rule 0.
 #[no_mangle]
 pub extern "C" fn desklink_decode_stored_batch_unguarded(
     code: u32,
