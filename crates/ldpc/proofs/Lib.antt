@@ -11,3 +11,4 @@ pub mod CheckSets
 pub mod Span
 pub mod Codewords
 pub mod PackedWords
+pub mod Sevens

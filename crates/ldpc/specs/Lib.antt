@@ -6,3 +6,4 @@ pub mod Calls
 pub mod Bytes
 pub mod Cases
 pub mod Codewords
+pub mod Rows

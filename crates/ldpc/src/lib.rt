@@ -1,18 +1,23 @@
 // The (174,91) LDPC code of FT8: its tables, encoding, and the count of unsatisfied checks.
 use refusal::Refusal;
 use refusal::Status;
+use tanner::Counted;
 use tanner::Counting;
+use tanner::FirstCheck;
 ghost use mathlib.Core.Path.{_≡_};
+ghost use mathlib.Core.List.{_∷_};
 ghost use Prim.Native.Nat.{ℕ, _+_, _*_, _≤_, _<_};
-ghost use lib.ListN.{length, getD};
+ghost use lib.ListN.{length, getD, drop};
 ghost use Rattle.refusal.specs.Outcome.{judged, kept};
 ghost use Rattle.refusal.specs.Answers.{statusOf};
-ghost use Rattle.tanner.specs.Checks.{syndromeOfBytes};
-ghost use Rattle.tanner.specs.Found.{countingOf};
+ghost use Rattle.tanner.specs.Checks.{xorFrom, countMasked, firstMasked, syndromeMasked, syndromeOfBytes};
+ghost use Rattle.tanner.specs.Found.{firstOf, syndromeOf, countingOf};
+ghost use Rattle.tanner.specs.Flat.{Below};
 ghost use Rattle.ldpc.specs.Bytes.{byteParity, mixed, gathered, codeByte};
 ghost use Rattle.ldpc.specs.Calls.{encodeRefusals, countRefusals};
 ghost use Rattle.ldpc.specs.Code174.{checks};
 ghost use Rattle.ldpc.specs.Encoding.{codewordOf};
+ghost use Rattle.ldpc.specs.Rows.{Rows, sevens};
 ghost use Rattle.ldpc.specs.Tables.{nm, numRows, mn};
 
 pub mod tables;
@@ -139,6 +144,106 @@ pub fn ldpc_encode(message: &[u8], codeword: &mut [u8]) -> Status
     Status::Done
 }
 
+// The bytes at a row's entries, XORed whole.
+fn xor_row(row: &[u8], padded: &[u8]) -> u8
+    requires { ⌜ Below (length (now padded)) (now row) ⌝ }
+    ensures { λ r. ⌜ r ≡ xorFrom 0 (now (row .entry)) (now (padded .entry)) ⌝ }
+{
+    let mut x: u8 = 0;
+    let mut i = 0;
+    while i < row.len() {
+        let p = row[i] as usize;
+        x = x ^ padded[p];
+        i += 1;
+    }
+    x
+}
+
+// How many of a table's rows of seven have a bit of the mask in their bytes XORed whole.
+fn count_rows(rows: usize, table: &[u8], padded: &[u8], mask: u8) -> u16
+    requires { ⌜ Rows rows (now table) (length (now padded)) ⌝ }
+    ensures { λ r. ⌜ r ≡ countMasked mask (sevens rows (now (table .entry))) (now (padded .entry)) ⌝ }
+{
+    let mut count: u16 = 0;
+    let mut c = 0;
+    let mut a = 0;
+    while c < rows {
+        let b = a + 7;
+        if xor_row(&table[a..b], padded) & mask != 0 {
+            count += 1;
+        }
+        c += 1;
+        a = b;
+    }
+    count
+}
+
+// The count over `NM`, eleven rows a call, so that the compiler sees each position as a number and reads no table.
+fn count_word(padded: &[u8], mask: u8) -> u16
+    requires { ⌜ length (now padded) ≡ 175 ⌝ }
+    ensures { λ r. ⌜ r ≡ countMasked mask (sevens 83 nm) (now (padded .entry)) ⌝ }
+{
+    let nm = tables::NM;
+    let mut n = count_rows(11, &nm[0..77], padded, mask);
+    n += count_rows(11, &nm[77..154], padded, mask);
+    n += count_rows(11, &nm[154..231], padded, mask);
+    n += count_rows(11, &nm[231..308], padded, mask);
+    n += count_rows(11, &nm[308..385], padded, mask);
+    n += count_rows(11, &nm[385..462], padded, mask);
+    n += count_rows(11, &nm[462..539], padded, mask);
+    n += count_rows(6, &nm[539..581], padded, mask);
+    n
+}
+
+// The first row that the mask counts: the scan ends there.
+fn first_row(table: &[u8], padded: &[u8], mask: u8) -> FirstCheck
+    requires { ⌜ Rows 83 (now table) (length (now padded)) ⌝ }
+    ensures { λ r. ⌜ firstOf r ≡ firstMasked mask (sevens 83 (now (table .entry))) (now (padded .entry)) ⌝ }
+{
+    let mut c = 0;
+    let mut a = 0;
+    while c < M {
+        let b = a + 7;
+        if xor_row(&table[a..b], padded) & mask != 0 {
+            return FirstCheck::Check(c as u16);
+        }
+        c += 1;
+        a = b;
+    }
+    FirstCheck::Satisfied
+}
+
+// What the mask counts of a word, and the first check that it counts. The word has a byte 0 before it, which an entry 0 of `NM` reads.
+pub fn counted(padded: &[u8], mask: u8) -> Counted
+    requires { ⌜ length (now padded) ≡ 175 ⌝ }
+    requires { ⌜ getD (now padded) 0 0 ≡ 0 ⌝ }
+    ensures { λ r. ⌜ syndromeOf r ≡ syndromeMasked mask checks (drop 1 (now (padded .entry))) ⌝ }
+{
+    let count = count_word(padded, mask);
+    if count == 0 {
+        return Counted {
+            count,
+            first: FirstCheck::Satisfied,
+        };
+    }
+    let first = first_row(&tables::NM, padded, mask);
+    Counted { count, first }
+}
+
+// A word, with a byte 0 before it.
+fn padded_word(hard: &[u8]) -> [u8; 175]
+    requires { ⌜ length (now hard) ≡ 174 ⌝ }
+    ensures { λ r. ⌜ r ≡ 0 ∷ now (hard .entry) ⌝ }
+{
+    let mut padded = [0u8; 175];
+    let mut i = 0;
+    while i < N {
+        padded[i + 1] = hard[i];
+        i += 1;
+    }
+    padded
+}
+
 // How many checks have bytes whose XOR is not zero, and the first of them.
 pub fn ldpc_count_errors(hard: &[u8]) -> Counting
     ensures { λ r. ⌜ countingOf r ≡ judged (countRefusals (now (hard .entry))) (syndromeOfBytes checks (now (hard .entry))) ⌝ }
@@ -146,5 +251,6 @@ pub fn ldpc_count_errors(hard: &[u8]) -> Counting
     if hard.len() != N {
         return Counting::Refused(Refusal::InputLength);
     }
-    Counting::Counted(tanner::counted_masked(&tables::CHECK_STARTS, &tables::CHECK_BITS, hard, 255))
+    let padded = padded_word(hard);
+    Counting::Counted(counted(&padded, 255))
 }

@@ -15,7 +15,8 @@ use Rattle.tanner.proofs.Count.{low-at}
 use Rattle.staircase.specs.Staircase.{taps, parityEntries, checkRow, checkRows}
 use Rattle.ldpc_codes.specs.Calls.{syndromeBy}
 use Rattle.staircase.specs.Codes.{codeOf, checks}
-use Rattle.staircase.proofs.Rows.{threes, rows0, rows1, rows2}
+use Rattle.slots.specs.Layout.{threes}
+use Rattle.staircase.proofs.Rows.{rows0, rows1, rows2}
 use Rattle.staircase.proofs.N512R12.{checks-right0}
 use Rattle.staircase.proofs.N576R23.{checks-right1}
 use Rattle.staircase.proofs.N512R34.{checks-right2}

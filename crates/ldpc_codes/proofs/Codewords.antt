@@ -13,18 +13,13 @@ use Rattle.tanner.specs.Checks.{Word, parity, count, countMasked, lowBits}
 use Rattle.tanner.specs.Flat.{Below, joined}
 use Rattle.tanner.proofs.Count.{low-length, parity-bit, parity-front, low-count, bits-low}
 use Rattle.staircase.specs.Staircase.{taps, parityEntries, checkRow, checkRows, checksOf, parityBits, encoded}
-use Rattle.ldpc_codes.specs.Calls.{filled}
+use Rattle.stairs.specs.Stairs.{bitBefore, filled}
 
 -- ---- the parity of one row
 parity-append : (xs ys : List ℕ) (w : Word) → parity (xs ++ ys) w ≡ (parity xs w + parity ys w) % 2
 unfolding parity
 parity-append [] ys w = omega (arith, parity-bit ys w)
 parity-append (x ∷ xs) ys w = omega (arith, parity-append xs ys w)
-
--- the bit before parity bit i: none for row 0
-unfoldable pub bitBefore : ℕ → ℕ → Word → ℕ
-bitBefore k zero w = 0
-bitBefore k (suc i) w = getD w (k + i) 0
 
 entries-parity : (k i : ℕ) (w : Word) → parity (parityEntries k i) w ≡ (getD w (k + i) 0 + bitBefore k i w) % 2
 unfolding parity parityEntries bitBefore

@@ -1,26 +1,27 @@
-// The staircase codes: encoding and counting, over tables that are proved to be what the construction gives.
+// The staircase codes: encoding and counting by each code's shape, over tables that are proved to be what the construction gives.
+// A function a code names its table, since a constant is laid where the function that names it starts.
 use construction::codes::N512R12;
 use construction::codes::N512R34;
 use construction::codes::N576R23;
 use refusal::Refusal;
 use refusal::Status;
-use staircase::tables::N512R12_CHECK_BITS;
-use staircase::tables::N512R12_CHECK_STARTS;
-use staircase::tables::N512R34_CHECK_BITS;
-use staircase::tables::N512R34_CHECK_STARTS;
-use staircase::tables::N576R23_CHECK_BITS;
-use staircase::tables::N576R23_CHECK_STARTS;
+use staircase::tables::N512R12_TAPS;
+use staircase::tables::N512R34_TAPS;
+use staircase::tables::N576R23_TAPS;
 use tanner::Counting;
 ghost use mathlib.Core.Path.{_≡_};
-ghost use mathlib.Core.List.{List, [], _∷_, _++_};
-ghost use Prim.Native.Nat.{ℕ, _+_, _-_, _≤_, _<_};
-ghost use lib.ListN.{length, take, drop, set};
+ghost use mathlib.Core.List.{_++_};
+ghost use Prim.Native.Nat.{_≤_};
+ghost use lib.ListN.{length, drop};
 ghost use Rattle.refusal.specs.Outcome.{judged, kept};
 ghost use Rattle.refusal.specs.Answers.{statusOf};
-ghost use Rattle.tanner.specs.Checks.{countMasked, syndromeMasked};
+ghost use Rattle.construction.specs.Codes.{n512r12, n576r23, n512r34};
+ghost use Rattle.tanner.specs.Checks.{syndromeMasked};
 ghost use Rattle.tanner.specs.Found.{countingOf};
-ghost use Rattle.tanner.specs.Flat.{FlatChecks, rowsOf};
-ghost use Rattle.ldpc_codes.specs.Calls.{lengthRefusals, encodeRefusals, encodedBy, shortRefusals, weightRefusals, syndromeBy, filled};
+ghost use Rattle.staircase.specs.Shape.{stairs};
+ghost use Rattle.stairs.specs.Stairs.{Stairs, filled};
+ghost use Rattle.ldpc_codes.specs.Calls.{lengthRefusals, codeLengths, codewordOf, encodeRefusals, encodedBy};
+ghost use Rattle.ldpc_codes.specs.Calls.{shortRefusals, shortWord, syndromeOf, weightRefusals, syndromeBy};
 
 // The message bytes, whole, at the front of the codeword.
 fn copy_message(message: &[u8], codeword: &mut [u8])
@@ -34,49 +35,21 @@ fn copy_message(message: &[u8], codeword: &mut [u8])
     }
 }
 
-// The parity bit of one check, at its place: the count of the check alone, with the bit at 0.
-fn parity_bit(starts: &[u16], flat: &[u16], codeword: &mut [u8], at: usize)
-    requires { ⌜ FlatChecks (now starts) (now flat) (length (now codeword)) ⌝ }
-    requires { ⌜ length (now starts) ≤ 2 ⌝ }
-    requires { ⌜ at < length (now codeword) ⌝ }
-    ensures { λ _. ⌜ now (codeword .exit)
-        ≡ set (now (codeword .entry)) at (countMasked 1 (rowsOf (now (starts .entry)) (now (flat .entry))) (set (now (codeword .entry)) at 0)) ⌝ }
-{
-    codeword[at] = 0;
-    let p = tanner::count_masked(starts, flat, codeword, 1);
-    codeword[at] = p as u8;
-}
-
-// The parity bits of all checks, one after another.
-fn parity_bits(starts: &[u16], flat: &[u16], k: usize, codeword: &mut [u8])
-    requires { ⌜ FlatChecks (now starts) (now flat) (length (now codeword)) ⌝ }
-    requires { ⌜ k + (length (now starts) - 1) ≤ length (now codeword) ⌝ }
-    ensures { λ _. ⌜ now (codeword .exit) ≡ filled (rowsOf (now (starts .entry)) (now (flat .entry))) k (now (codeword .entry)) ⌝ }
-{
-    let mut c = 0;
-    while c + 1 < starts.len() {
-        let end = c + 2;
-        let at = k + c;
-        parity_bit(&starts[c..end], flat, codeword, at);
-        c += 1;
-    }
-}
-
-// A code's encoding over its checks, with its lengths tested.
+// A code's encoding over its table, with its lengths tested.
 fn encode_over(
-    starts: &[u16],
-    flat: &[u16],
+    width: usize,
     k: usize,
+    m: usize,
+    taps: &[u16],
     n: usize,
     message: &[u8],
     codeword: &mut [u8],
 ) -> Status
-    requires { ⌜ FlatChecks (now starts) (now flat) n ⌝ }
-    requires { ⌜ k + (length (now starts) - 1) ≡ n ⌝ }
+    requires { ⌜ Stairs k width m n (now taps) ⌝ }
     ensures { λ r. ⌜ statusOf r ≡ judged (lengthRefusals k n (now (message .entry)) (now (codeword .entry))) tt ⌝ }
     ensures { λ r. ⌜ now (codeword .exit)
         ≡ kept (lengthRefusals k n (now (message .entry)) (now (codeword .entry))) (now (codeword .entry))
-        (filled (rowsOf (now (starts .entry)) (now (flat .entry))) k (now (message .entry) ++ drop (length (now (message .entry))) (now (codeword .entry)))) ⌝ }
+        (filled (stairs k width m (now (taps .entry))) k (now (message .entry) ++ drop (length (now (message .entry))) (now (codeword .entry)))) ⌝ }
 {
     if message.len() != k {
         return Status::Refused(Refusal::InputLength);
@@ -85,8 +58,59 @@ fn encode_over(
         return Status::Refused(Refusal::OutputLength);
     }
     copy_message(message, codeword);
-    parity_bits(starts, flat, k, codeword);
+    stairs::fill(width, k, m, taps, codeword);
     Status::Done
+}
+
+// A codeword of code 0.
+fn encode_n512r12(message: &[u8], codeword: &mut [u8]) -> Status
+    ensures { λ r. ⌜ statusOf r ≡ judged (codeLengths n512r12 (now (message .entry)) (now (codeword .entry))) tt ⌝ }
+    ensures { λ r. ⌜ now (codeword .exit)
+        ≡ kept (codeLengths n512r12 (now (message .entry)) (now (codeword .entry))) (now (codeword .entry)) (codewordOf n512r12 (now (message .entry))) ⌝ }
+{
+    encode_over(
+        3,
+        N512R12::K,
+        N512R12::M,
+        &N512R12_TAPS,
+        N512R12::N,
+        message,
+        codeword,
+    )
+}
+
+// A codeword of code 1.
+fn encode_n576r23(message: &[u8], codeword: &mut [u8]) -> Status
+    ensures { λ r. ⌜ statusOf r ≡ judged (codeLengths n576r23 (now (message .entry)) (now (codeword .entry))) tt ⌝ }
+    ensures { λ r. ⌜ now (codeword .exit)
+        ≡ kept (codeLengths n576r23 (now (message .entry)) (now (codeword .entry))) (now (codeword .entry)) (codewordOf n576r23 (now (message .entry))) ⌝ }
+{
+    encode_over(
+        6,
+        N576R23::K,
+        N576R23::M,
+        &N576R23_TAPS,
+        N576R23::N,
+        message,
+        codeword,
+    )
+}
+
+// A codeword of code 2.
+fn encode_n512r34(message: &[u8], codeword: &mut [u8]) -> Status
+    ensures { λ r. ⌜ statusOf r ≡ judged (codeLengths n512r34 (now (message .entry)) (now (codeword .entry))) tt ⌝ }
+    ensures { λ r. ⌜ now (codeword .exit)
+        ≡ kept (codeLengths n512r34 (now (message .entry)) (now (codeword .entry))) (now (codeword .entry)) (codewordOf n512r34 (now (message .entry))) ⌝ }
+{
+    encode_over(
+        9,
+        N512R34::K,
+        N512R34::M,
+        &N512R34_TAPS,
+        N512R34::N,
+        message,
+        codeword,
+    )
 }
 
 // The codeword of a message of K bytes, whose low bits are its bits.
@@ -96,48 +120,48 @@ pub fn encode(code: u32, message: &[u8], codeword: &mut [u8]) -> Status
         ≡ kept (encodeRefusals code (now (message .entry)) (now (codeword .entry))) (now (codeword .entry)) (encodedBy code (now (message .entry))) ⌝ }
 {
     if code == 0 {
-        return encode_over(
-            &N512R12_CHECK_STARTS,
-            &N512R12_CHECK_BITS,
-            N512R12::K,
-            N512R12::N,
-            message,
-            codeword,
-        );
+        return encode_n512r12(message, codeword);
     }
     if code == 1 {
-        return encode_over(
-            &N576R23_CHECK_STARTS,
-            &N576R23_CHECK_BITS,
-            N576R23::K,
-            N576R23::N,
-            message,
-            codeword,
-        );
+        return encode_n576r23(message, codeword);
     }
     if code == 2 {
-        return encode_over(
-            &N512R34_CHECK_STARTS,
-            &N512R34_CHECK_BITS,
-            N512R34::K,
-            N512R34::N,
-            message,
-            codeword,
-        );
+        return encode_n512r34(message, codeword);
     }
     Status::Refused(Refusal::UnknownCode)
 }
 
-// The count and the first unsatisfied check of a word over a code's checks, with its length tested.
-fn weight_over(starts: &[u16], flat: &[u16], n: usize, hard: &[u8]) -> Counting
-    requires { ⌜ FlatChecks (now starts) (now flat) n ⌝ }
+// The count and the first unsatisfied check of a word over a code's table, with its length tested.
+fn weight_over(width: usize, k: usize, m: usize, taps: &[u16], n: usize, hard: &[u8]) -> Counting
+    requires { ⌜ Stairs k width m n (now taps) ⌝ }
     ensures { λ r. ⌜ countingOf r
-        ≡ judged (shortRefusals n (now (hard .entry))) (syndromeMasked 1 (rowsOf (now (starts .entry)) (now (flat .entry))) (now (hard .entry))) ⌝ }
+        ≡ judged (shortRefusals n (now (hard .entry))) (syndromeMasked 1 (stairs k width m (now (taps .entry))) (now (hard .entry))) ⌝ }
 {
     if hard.len() < n {
         return Counting::Refused(Refusal::WordTooShort);
     }
-    Counting::Counted(tanner::counted_masked(starts, flat, hard, 1))
+    Counting::Counted(stairs::counted(width, k, m, taps, hard))
+}
+
+// The count of code 0.
+fn weight_n512r12(hard: &[u8]) -> Counting
+    ensures { λ r. ⌜ countingOf r ≡ judged (shortWord n512r12 (now (hard .entry))) (syndromeOf n512r12 (now (hard .entry))) ⌝ }
+{
+    weight_over(3, N512R12::K, N512R12::M, &N512R12_TAPS, N512R12::N, hard)
+}
+
+// The count of code 1.
+fn weight_n576r23(hard: &[u8]) -> Counting
+    ensures { λ r. ⌜ countingOf r ≡ judged (shortWord n576r23 (now (hard .entry))) (syndromeOf n576r23 (now (hard .entry))) ⌝ }
+{
+    weight_over(6, N576R23::K, N576R23::M, &N576R23_TAPS, N576R23::N, hard)
+}
+
+// The count of code 2.
+fn weight_n512r34(hard: &[u8]) -> Counting
+    ensures { λ r. ⌜ countingOf r ≡ judged (shortWord n512r34 (now (hard .entry))) (syndromeOf n512r34 (now (hard .entry))) ⌝ }
+{
+    weight_over(9, N512R34::K, N512R34::M, &N512R34_TAPS, N512R34::N, hard)
 }
 
 // How many checks the low bits of the word's first N bytes leave unsatisfied, and the first of them.
@@ -145,13 +169,13 @@ pub fn syndrome_weight(code: u32, hard: &[u8]) -> Counting
     ensures { λ r. ⌜ countingOf r ≡ judged (weightRefusals code (now (hard .entry))) (syndromeBy code (now (hard .entry))) ⌝ }
 {
     if code == 0 {
-        return weight_over(&N512R12_CHECK_STARTS, &N512R12_CHECK_BITS, N512R12::N, hard);
+        return weight_n512r12(hard);
     }
     if code == 1 {
-        return weight_over(&N576R23_CHECK_STARTS, &N576R23_CHECK_BITS, N576R23::N, hard);
+        return weight_n576r23(hard);
     }
     if code == 2 {
-        return weight_over(&N512R34_CHECK_STARTS, &N512R34_CHECK_BITS, N512R34::N, hard);
+        return weight_n512r34(hard);
     }
     Counting::Refused(Refusal::UnknownCode)
 }

@@ -95,6 +95,56 @@ fn fill_checks(rows: &[u16], k: u16, m: u16, starts: &mut [u16], flat: &mut [u16
     put(starts, m as usize, (at % 65536) as u16);
 }
 
+// The message columns of every row, one row after another.
+fn fill_taps(rows: &[u16], k: u16, m: u16, table: &mut [u16]) {
+    let mut at = 0;
+    let mut r: u16 = 0;
+    while r < m {
+        at = taps(rows, k, r, table, at);
+        r += 1;
+    }
+}
+
+// The places by slots of position p's edges: entry j of row r, of m rows with `width` message columns each, lies at j * m + r.
+fn slot_places(
+    table: &[u16],
+    width: usize,
+    m: usize,
+    p: u16,
+    edges: &mut [u16],
+    from: usize,
+) -> usize
+    requires { ⌜ 0 < width ⌝ }
+    requires { ⌜ width < 1000 ⌝ }
+    requires { ⌜ m < 1000 ⌝ }
+{
+    let mut at = from;
+    let mut e = 0;
+    while e < table.len() {
+        let entry = e % width;
+        let row = e / width;
+        let place = (entry * m + row % 1000) % 65536;
+        let found = table[e] == p;
+        at = put_if(found, edges, at, place as u16);
+        e += 1;
+    }
+    at
+}
+
+// Those of each of k positions.
+fn fill_places(table: &[u16], width: usize, k: u16, m: usize, edges: &mut [u16])
+    requires { ⌜ 0 < width ⌝ }
+    requires { ⌜ width < 1000 ⌝ }
+    requires { ⌜ m < 1000 ⌝ }
+{
+    let mut at = 0;
+    let mut p: u16 = 0;
+    while p < k {
+        at = slot_places(table, width, m, p, edges, at);
+        p += 1;
+    }
+}
+
 // The edges of position p: its places in the checks.
 fn places(flat: &[u16], p: u16, edges: &mut [u16], from: usize) -> usize {
     let mut at = from;
@@ -124,9 +174,13 @@ fn print_n512r12() {
     let rows = columns.rows;
     let mut check_starts = [0u16; 257];
     let mut check_bits = [0u16; 1279];
+    let mut table = [0u16; 768];
+    let mut message_edges = [0u16; 768];
     let mut edge_starts = [0u16; 513];
     let mut edges = [0u16; 1279];
     fill_checks(&rows, 256, 256, &mut check_starts, &mut check_bits);
+    fill_taps(&rows, 256, 256, &mut table);
+    fill_places(&table, 3, 256, 256, &mut message_edges);
     fill_edges(&check_bits, 512, &mut edge_starts, &mut edges);
     print_table(b"\npub const N512R12_ROWS: [u16; 768] = [\n", &rows);
     print_table(
@@ -136,6 +190,11 @@ fn print_n512r12() {
     print_table(
         b"\npub const N512R12_CHECK_BITS: [u16; 1279] = [\n",
         &check_bits,
+    );
+    print_table(b"\npub const N512R12_TAPS: [u16; 768] = [\n", &table);
+    print_table(
+        b"\npub const N512R12_EDGES: [u16; 768] = [\n",
+        &message_edges,
     );
     print_table(
         b"\npub const N512R12_BIT_STARTS: [u16; 513] = [\n",
@@ -149,9 +208,13 @@ fn print_n576r23() {
     let rows = columns.rows;
     let mut check_starts = [0u16; 193];
     let mut check_bits = [0u16; 1535];
+    let mut table = [0u16; 1152];
+    let mut message_edges = [0u16; 1152];
     let mut edge_starts = [0u16; 577];
     let mut edges = [0u16; 1535];
     fill_checks(&rows, 384, 192, &mut check_starts, &mut check_bits);
+    fill_taps(&rows, 384, 192, &mut table);
+    fill_places(&table, 6, 384, 192, &mut message_edges);
     fill_edges(&check_bits, 576, &mut edge_starts, &mut edges);
     print_table(b"\npub const N576R23_ROWS: [u16; 1152] = [\n", &rows);
     print_table(
@@ -161,6 +224,11 @@ fn print_n576r23() {
     print_table(
         b"\npub const N576R23_CHECK_BITS: [u16; 1535] = [\n",
         &check_bits,
+    );
+    print_table(b"\npub const N576R23_TAPS: [u16; 1152] = [\n", &table);
+    print_table(
+        b"\npub const N576R23_EDGES: [u16; 1152] = [\n",
+        &message_edges,
     );
     print_table(
         b"\npub const N576R23_BIT_STARTS: [u16; 577] = [\n",
@@ -174,9 +242,13 @@ fn print_n512r34() {
     let rows = columns.rows;
     let mut check_starts = [0u16; 129];
     let mut check_bits = [0u16; 1407];
+    let mut table = [0u16; 1152];
+    let mut message_edges = [0u16; 1152];
     let mut edge_starts = [0u16; 513];
     let mut edges = [0u16; 1407];
     fill_checks(&rows, 384, 128, &mut check_starts, &mut check_bits);
+    fill_taps(&rows, 384, 128, &mut table);
+    fill_places(&table, 9, 384, 128, &mut message_edges);
     fill_edges(&check_bits, 512, &mut edge_starts, &mut edges);
     print_table(b"\npub const N512R34_ROWS: [u16; 1152] = [\n", &rows);
     print_table(
@@ -186,6 +258,11 @@ fn print_n512r34() {
     print_table(
         b"\npub const N512R34_CHECK_BITS: [u16; 1407] = [\n",
         &check_bits,
+    );
+    print_table(b"\npub const N512R34_TAPS: [u16; 1152] = [\n", &table);
+    print_table(
+        b"\npub const N512R34_EDGES: [u16; 1152] = [\n",
+        &message_edges,
     );
     print_table(
         b"\npub const N512R34_BIT_STARTS: [u16; 513] = [\n",

@@ -8,13 +8,7 @@ use Rattle.construction.specs.Columns.{Made, holds, settled, sorted, insert, up
 use Rattle.construction.specs.Quick.{marked, markedIf, markedBy, marksOf, lessOf, met, scan, foundIn, quickSearch, quickPick, loaded, quickOnePick, quickPicks, quickFinished, quickColumn, quickColumns, quick}
 use Rattle.construction.specs.Codes.{n512r12, n576r23, n512r34, messageRows, relaxedPicks}
 use Rattle.construction.proofs.Agree.{agree}
-
--- a flat list cut into threes
-unfoldable pub threes : List ℕ → List (List ℕ)
-threes [] = []
-threes (a ∷ []) = []
-threes (a ∷ (b ∷ [])) = []
-threes (a ∷ (b ∷ (c ∷ l))) = (a ∷ (b ∷ (c ∷ []))) ∷ threes l
+use Rattle.slots.specs.Layout.{threes}
 
 unfoldable pub rows0 : List ℕ
 rows0 =

@@ -1,2 +1,3 @@
 pub mod Staircase
 pub mod Codes
+pub mod Shape

@@ -85,12 +85,12 @@ row-at rs b h = rw (add-one, ← cut-at (ends 0 rs) (joined rs) 0 b (omega (arit
 
 -- ---- each position's edges
 
-edges-length : (p n : ℕ) (flat : List ℕ) → length (edgesFrom p n flat) ≡ n
+pub edges-length : (p n : ℕ) (flat : List ℕ) → length (edgesFrom p n flat) ≡ n
 unfolding edgesFrom
 edges-length p zero flat = refl
 edges-length p (suc n) flat = ap suc (edges-length (suc p) n flat)
 
-edges-at : (p n b : ℕ) (flat : List ℕ) → b < n → getD (edgesFrom p n flat) b [] ≡ places (p + b) 0 flat
+pub edges-at : (p n b : ℕ) (flat : List ℕ) → b < n → getD (edgesFrom p n flat) b [] ≡ places (p + b) 0 flat
 unfolding edgesFrom
 edges-at p zero b flat h = absurd (omega arith)
 edges-at p (suc n) zero flat h = rw add-zero

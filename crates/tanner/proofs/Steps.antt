@@ -10,7 +10,7 @@ use lib.Dec.{eqb}
 use lib.ListN.{length, getD, take, drop, drop-of-length-le, length-take, length-drop}
 use lib.Seq.{drop-cons, getD-take, getD-drop, take-all}
 use borrow.Author.Tests.{eq-eqb, ne-eqb}
-use Rattle.tanner.specs.Checks.{First, check, none, xorFrom, nonzero, countMasked, measured, firstBy}
+use Rattle.tanner.specs.Checks.{Checks, First, check, none, xorFrom, nonzero, countMasked, measured, firstBy}
 use Rattle.tanner.specs.Flat.{cut, rowsFrom, Below}
 
 pub xor-more : (ps bytes : List ℕ) (x i z : ℕ) → i < length ps → xorFrom x (drop i ps) bytes ≡ z
@@ -39,22 +39,21 @@ part-below n f a b low k h =
     let q : a + k < length f = omega (arith, simp (length-take, length-drop) at h) in
     rw (getD-take, getD-drop) (low (a + k) q)
 
-module _ (mask : ℕ) (s f bytes : List ℕ) (c u z x : ℕ) (h : c + 1 < length s)
-    (e : x ≡ xorFrom 0 (take (getD s (c + 1) 0 - getD s c 0) (drop (getD s c 0) f)) bytes)
-    (i : u + countMasked mask (rowsFrom s c f) bytes ≡ z) where
-  counted : u + (nonzero (bitAnd x mask) + countMasked mask (rowsFrom s (c + 1) f) bytes) ≡ z
+-- one turn of a count: the next of the checks that are left
+module _ (mask : ℕ) (bytes r : List ℕ) (rest rs : Checks) (u z x : ℕ) (h : rest ≡ r ∷ rs) (e : x ≡ xorFrom 0 r bytes) (i : u + countMasked mask rest bytes ≡ z) where
+  counted : u + (nonzero (bitAnd x mask) + countMasked mask rs bytes) ≡ z
   unfolding countMasked
-  counted = rw e (rw (rows-more s f c h) at i)
+  counted = rw e (rw h at i)
 
-  pub count-more : (bitAnd x mask ≡ 0 → ⊥) → u + 1 + countMasked mask (rowsFrom s (c + 1) f) bytes ≡ z
+  pub count-more : (bitAnd x mask ≡ 0 → ⊥) → u + 1 + countMasked mask rs bytes ≡ z
   count-more n = omega (arith, simp (ne-eqb _ _ n) at counted)
 
-  pub count-same : bitAnd x mask ≡ 0 → u + countMasked mask (rowsFrom s (c + 1) f) bytes ≡ z
+  pub count-same : bitAnd x mask ≡ 0 → u + countMasked mask rs bytes ≡ z
   count-same n = omega (arith, simp (eq-eqb _ _ n) at counted)
 
-pub count-done : (mask : ℕ) (s f bytes : List ℕ) (c u z : ℕ) → length s ≤ c + 1 → u + countMasked mask (rowsFrom s c f) bytes ≡ z → u ≡ z
+pub count-done : (mask : ℕ) (bytes : List ℕ) (rest : Checks) (u z : ℕ) → rest ≡ [] → u + countMasked mask rest bytes ≡ z → u ≡ z
 unfolding countMasked
-count-done mask s f bytes c u z h e = omega (arith, rw (rows-done s f c h) at e)
+count-done mask bytes rest u z h e = omega (arith, rw h at e)
 
 -- ---- a part that is the whole, which has as many entries as the literal that cuts it says
 
@@ -72,19 +71,17 @@ front-xor x r n l bytes e given = rw (front-whole n l e) at given
 
 -- ---- one turn of the scan for the first check
 
-module _ (mask : ℕ) (s f bytes : List ℕ) (c x : ℕ) (z : First) (h : c + 1 < length s)
-    (e : x ≡ xorFrom 0 (take (getD s (c + 1) 0 - getD s c 0) (drop (getD s c 0) f)) bytes)
-    (i : firstBy (measured mask bytes) c (rowsFrom s c f) ≡ z) where
-  scanned : cond (eqb (nonzero (bitAnd x mask)) 0) (firstBy (measured mask bytes) (suc c) (rowsFrom s (c + 1) f)) (check c) ≡ z
+module _ (mask : ℕ) (bytes r : List ℕ) (rest rs : Checks) (c x : ℕ) (z : First) (h : rest ≡ r ∷ rs) (e : x ≡ xorFrom 0 r bytes) (i : firstBy (measured mask bytes) c rest ≡ z) where
+  scanned : cond (eqb (nonzero (bitAnd x mask)) 0) (firstBy (measured mask bytes) (suc c) rs) (check c) ≡ z
   unfolding firstBy
-  scanned = rw e (rw (rows-more s f c h) at i)
+  scanned = rw e (rw h at i)
 
   pub first-here : (bitAnd x mask ≡ 0 → ⊥) → check c ≡ z
   first-here n = simp (ne-eqb _ _ n) at scanned
 
-  pub first-later : bitAnd x mask ≡ 0 → firstBy (measured mask bytes) (c + 1) (rowsFrom s (c + 1) f) ≡ z
-  first-later n = subst (λ (k : ℕ). firstBy (measured mask bytes) k (rowsFrom s (c + 1) f) ≡ z) (sym (add-one c)) (simp (eq-eqb _ _ n) at scanned)
+  pub first-later : bitAnd x mask ≡ 0 → firstBy (measured mask bytes) (c + 1) rs ≡ z
+  first-later n = subst (λ (k : ℕ). firstBy (measured mask bytes) k rs ≡ z) (sym (add-one c)) (simp (eq-eqb _ _ n) at scanned)
 
-pub first-nowhere : (mask : ℕ) (s f bytes : List ℕ) (c : ℕ) (z : First) → length s ≤ c + 1 → firstBy (measured mask bytes) c (rowsFrom s c f) ≡ z → none ≡ z
+pub first-nowhere : (mask : ℕ) (bytes : List ℕ) (rest : Checks) (c : ℕ) (z : First) → rest ≡ [] → firstBy (measured mask bytes) c rest ≡ z → none ≡ z
 unfolding firstBy
-first-nowhere mask s f bytes c z h e = rw (rows-done s f c h) at e
+first-nowhere mask bytes rest c z h e = rw h at e

@@ -25,7 +25,7 @@ pub enum Counting {
 }
 
 // The bytes at one check's positions, XORed whole.
-fn xor_at(positions: &[u16], bytes: &[u8]) -> u8
+pub fn xor_at(positions: &[u16], bytes: &[u8]) -> u8
     requires { ⌜ Below (length (now bytes)) (now positions) ⌝ }
     ensures { λ r. ⌜ r ≡ xorFrom 0 (now (positions .entry)) (now (bytes .entry)) ⌝ }
 {
@@ -39,25 +39,16 @@ fn xor_at(positions: &[u16], bytes: &[u8]) -> u8
     x
 }
 
-// The same with the degrees of the codes as numbers that the compiler sees, so that it unrolls the loop for each.
+// The same with (174,91)'s degrees as numbers that the compiler sees, so that it unrolls the loop for each.
 fn xor_check(positions: &[u16], bytes: &[u8]) -> u8
     requires { ⌜ Below (length (now bytes)) (now positions) ⌝ }
     ensures { λ r. ⌜ r ≡ xorFrom 0 (now (positions .entry)) (now (bytes .entry)) ⌝ }
 {
-    if positions.len() == 5 {
-        return xor_at(&positions[..5], bytes);
-    }
     if positions.len() == 6 {
         return xor_at(&positions[..6], bytes);
     }
     if positions.len() == 7 {
         return xor_at(&positions[..7], bytes);
-    }
-    if positions.len() == 8 {
-        return xor_at(&positions[..8], bytes);
-    }
-    if positions.len() == 11 {
-        return xor_at(&positions[..11], bytes);
     }
     xor_at(positions, bytes)
 }

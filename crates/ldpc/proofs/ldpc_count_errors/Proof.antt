@@ -1,44 +1,46 @@
--- `ldpc::ldpc_count_errors` meets its contract: the arrays hold the check list, and mask 255 counts whole bytes.
+-- `ldpc::ldpc_count_errors` meets its contract: the word behind a byte 0, counted by whole bytes. Assumes nothing.
 use mathlib.Core.Path.{ap, _∙_}
+use mathlib.Core.List.{List}
+use Prim.Native.Nat.{ℕ}
 use native.Mathlib.Omega.{arith}
-use denote.Ref.{now}
-use borrow.Author.Needs.{needs}
 use borrow.Author.Tests.{eq-eqb, ne-eqb}
+use lib.ListN.{drop}
 use Rattle.refusal.specs.Outcome.{accepted}
+use Rattle.tanner.specs.Checks.{syndromeMasked}
 use Rattle.tanner.specs.Flat.{Below}
-use Rattle.ldpc.proofs.Arrays.{checkStart, checkBits}
+use Rattle.ldpc.specs.Code174.{checks}
 use Rattle.ldpc.proofs.Counting.{bytes-counted}
-use Rattle.ldpc.proofs.Graph.{flat}
+use borrow.Author.Needs.{needs}
 use Rattle.ldpc.proofs.ldpc_count_errors.Statement.{statement}
 use Rattle.ldpc.proofs.ldpc_count_errors.Tie as tie
+use Rattle.ldpc.proofs.ldpc_count_errors.Reads as reads
+use Rattle.ldpc.proofs.ldpc_count_errors.Lts as lts
+use Rattle.ldpc.proofs.counted.Reads as counted-reads
+use Rattle.ldpc.proofs.padded_word.Reads as padded-word-reads
 
 returns : tie.Need-returns
 returns c = simp (ne-eqb _ _ (c .if1 .taken))
 
-slice-aggregate-counted-masked : tie.Need-slice-aggregate-counted-masked
-slice-aggregate-counted-masked c = search needs
+padded-word-requires : tie.Need-padded-word-requires
+padded-word-requires c κs = search needs
 
-slice-aggregate-counted-masked-2 : tie.Need-slice-aggregate-counted-masked-2
-slice-aggregate-counted-masked-2 c = search needs
+slice-aggregate-counted : tie.Need-slice-aggregate-counted
+slice-aggregate-counted c = search needs
 
-counted-masked-requires : tie.Need-counted-masked-requires
-unfolding checkStart checkBits
-counted-masked-requires c κs = rw (c .before .before .if1 .left) flat
+counted-requires : tie.Need-counted-requires
+counted-requires c κs = search needs
 
 returns-2 : tie.Need-returns-2
-unfolding checkStart checkBits Below
+unfolding Below
 returns-2 c =
-    let tested = c .before .before .before in
-    let hard = now (tested .before .before .args .hard) in
+    let filled = c .before .before in
+    let tested = filled .before in
+    let hard = tested .before .before .args .hard .now in
     let bytes : Below 256 hard = λ k h. omega (arith, tested .before .shared-slice-known .given k) in
-    simp (eq-eqb _ _ (tested .if1 .left)) (ap accepted (c .counted-masked .ensures ∙ bytes-counted hard bytes))
+    let same = c .counted .ensures ∙ ap (λ (p : List ℕ). syndromeMasked 255 checks (drop 1 p)) (filled .padded-word .ensures) in
+    simp (eq-eqb _ _ (tested .if1 .left)) (ap accepted (same ∙ bytes-counted hard bytes))
 
 pub ldpc-count-errors-spec : {M : Type 1} → statement M
 ldpc-count-errors-spec =
     tie.close
-    (tie.spec
-    returns
-    slice-aggregate-counted-masked
-    slice-aggregate-counted-masked-2
-    counted-masked-requires
-    returns-2)
+    (tie.spec returns padded-word-requires slice-aggregate-counted counted-requires returns-2)

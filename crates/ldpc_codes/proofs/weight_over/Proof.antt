@@ -1,22 +1,22 @@
--- `ldpc_codes::weight_over` meets its contract. Assumes nothing.
+-- `ldpc_codes::weight_over` meets its contract: each way out by the test that led there. Assumes nothing.
 use mathlib.Core.Path.{ap}
 use borrow.Author.Tests.{lt-ltb, le-ltb}
 use Rattle.refusal.specs.Outcome.{accepted}
-use Rattle.ldpc_codes.proofs.Laid.{flat-longer}
+use borrow.Author.Needs.{needs}
 use Rattle.ldpc_codes.proofs.weight_over.Statement.{statement}
 use Rattle.ldpc_codes.proofs.weight_over.Tie as tie
 use Rattle.ldpc_codes.proofs.weight_over.Reads as reads
 use Rattle.ldpc_codes.proofs.weight_over.Lts as lts
-use Rattle.tanner.proofs.counted_masked.Reads as counted-masked-reads
+use Rattle.stairs.proofs.counted.Reads as counted-reads
 
 returns : tie.Need-returns
 returns c = simp (lt-ltb _ _ (c .if1 .taken))
 
-counted-masked-requires : tie.Need-counted-masked-requires
-counted-masked-requires c κs = flat-longer (c .if1 .left) (c .before .before .before .before .pre)
+counted-requires : tie.Need-counted-requires
+counted-requires c κs = search needs
 
 returns-2 : tie.Need-returns-2
-returns-2 c = simp (le-ltb _ _ (c .before .if1 .left)) (ap accepted (c .counted-masked .ensures))
+returns-2 c = simp (le-ltb _ _ (c .before .if1 .left)) (ap accepted (c .counted .ensures))
 
 pub weight-over-spec : {M : Type 1} → statement M
-weight-over-spec = tie.close (tie.spec returns counted-masked-requires returns-2)
+weight-over-spec = tie.close (tie.spec returns counted-requires returns-2)

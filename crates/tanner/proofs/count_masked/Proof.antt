@@ -6,7 +6,7 @@ use native.Mathlib.Omega.{arith}
 use lib.ListN.{length, getD}
 use Rattle.tanner.specs.Checks.{countMasked}
 use Rattle.tanner.specs.Flat.{rowsFrom, rowsOf, Within}
-use Rattle.tanner.proofs.Steps.{part-below, count-more, count-same, count-done}
+use Rattle.tanner.proofs.Steps.{part-below, rows-more, rows-done, count-more, count-same, count-done}
 use borrow.Author.Needs.{needs}
 use Rattle.tanner.proofs.count_masked.Statement.{statement}
 use Rattle.tanner.proofs.count_masked.Tie as tie
@@ -87,12 +87,12 @@ loop-again : tie.Need-loop-again Inv-loop μ-loop
 loop-again c =
     let turn = c .before .before .before .before .before in
     ⊎-elim
-    (λ w. (search needs, omega arith, rw (w .1) (count-more _ _ _ _ _ _ _ _ (turn .loop-test .taken) (c .before .xor-check .ensures) (turn .before .loop .inv .2) (w .0 .taken))))
-    (λ w. (search needs, omega arith, rw (w .1) (count-same _ _ _ _ _ _ _ _ (turn .loop-test .taken) (c .before .xor-check .ensures) (turn .before .loop .inv .2) (w .0 .left))))
+    (λ w. (search needs, omega arith, rw (w .1) (count-more _ _ _ _ _ _ _ _ (rows-more _ _ _ (turn .loop-test .taken)) (c .before .xor-check .ensures) (turn .before .loop .inv .2) (w .0 .taken))))
+    (λ w. (search needs, omega arith, rw (w .1) (count-same _ _ _ _ _ _ _ _ (rows-more _ _ _ (turn .loop-test .taken)) (c .before .xor-check .ensures) (turn .before .loop .inv .2) (w .0 .left))))
     (c .if1 .came)
 
 returns : tie.Need-returns Inv-loop μ-loop
-returns c = count-done _ _ _ _ _ _ _ (c .loop-test .left) (c .before .loop .inv .2)
+returns c = count-done _ _ _ _ _ (rows-done _ _ _ (c .loop-test .left)) (c .before .loop .inv .2)
 
 pub count-masked-spec : {M : Type 1} → statement M
 count-masked-spec =

@@ -5,7 +5,7 @@ use native.Mathlib.Omega.{arith}
 use lib.ListN.{length, getD}
 use Rattle.tanner.specs.Checks.{measured, firstBy, firstMasked}
 use Rattle.tanner.specs.Flat.{rowsFrom, rowsOf, Within}
-use Rattle.tanner.proofs.Steps.{part-below, first-here, first-later, first-nowhere}
+use Rattle.tanner.proofs.Steps.{part-below, rows-more, rows-done, first-here, first-later, first-nowhere}
 use borrow.Author.Needs.{needs}
 use Rattle.tanner.proofs.first_masked.Statement.{statement}
 use Rattle.tanner.proofs.first_masked.Tie as tie
@@ -76,7 +76,7 @@ cast-t19 c = let start = c .before .before .before .before .before .before .befo
 returns : tie.Need-returns Inv-loop μ-loop
 returns c =
     let turn = c .before .before .before .before .before in
-    first-here _ _ _ _ _ _ _ (turn .loop-test .taken) (c .before .xor-check .ensures) (turn .before .loop .inv .1) (c .if1 .taken)
+    first-here _ _ _ _ _ _ _ _ (rows-more _ _ _ (turn .loop-test .taken)) (c .before .xor-check .ensures) (turn .before .loop .inv .1) (c .if1 .taken)
 
 add-c : tie.Need-add-c Inv-loop μ-loop
 add-c c = search needs
@@ -87,10 +87,10 @@ loop-less c = search needs
 loop-again : tie.Need-loop-again Inv-loop μ-loop
 loop-again c =
     let turn = c .before .before .before .before .before in
-    (search needs, first-later _ _ _ _ _ _ _ (turn .loop-test .taken) (c .before .xor-check .ensures) (turn .before .loop .inv .1) (c .if1 .left))
+    (search needs, first-later _ _ _ _ _ _ _ _ (rows-more _ _ _ (turn .loop-test .taken)) (c .before .xor-check .ensures) (turn .before .loop .inv .1) (c .if1 .left))
 
 returns-2 : tie.Need-returns-2 Inv-loop μ-loop
-returns-2 c = first-nowhere _ _ _ _ _ _ (c .loop-test .left) (c .before .loop .inv .1)
+returns-2 c = first-nowhere _ _ _ _ _ (rows-done _ _ _ (c .loop-test .left)) (c .before .loop .inv .1)
 
 pub first-masked-spec : {M : Type 1} → statement M
 first-masked-spec =

@@ -22,38 +22,11 @@ xor-at-requires-2 c κs = front-below _ _ _ (c .before .if2 .taken) (c .before .
 returns-2 : tie.Need-returns-2
 returns-2 c = front-xor _ _ _ _ _ (c .before .before .if2 .taken) (c .xor-at2 .ensures)
 
-slice-aggregate-xor-at-3 : tie.Need-slice-aggregate-xor-at-3
-slice-aggregate-xor-at-3 c = front-length _ (c .before .before .before .before .before .before .args .positions .now) (c .before .if3 .taken)
-
 xor-at-requires-3 : tie.Need-xor-at-requires-3
-xor-at-requires-3 c κs = front-below _ _ _ (c .before .if3 .taken) (c .before .before .before .before .before .before .pre)
+xor-at-requires-3 c κs = search needs
 
 returns-3 : tie.Need-returns-3
-returns-3 c = front-xor _ _ _ _ _ (c .before .before .if3 .taken) (c .xor-at3 .ensures)
-
-slice-aggregate-xor-at-4 : tie.Need-slice-aggregate-xor-at-4
-slice-aggregate-xor-at-4 c = front-length _ (c .before .before .before .before .before .before .before .args .positions .now) (c .before .if4 .taken)
-
-xor-at-requires-4 : tie.Need-xor-at-requires-4
-xor-at-requires-4 c κs = front-below _ _ _ (c .before .if4 .taken) (c .before .before .before .before .before .before .before .pre)
-
-returns-4 : tie.Need-returns-4
-returns-4 c = front-xor _ _ _ _ _ (c .before .before .if4 .taken) (c .xor-at4 .ensures)
-
-slice-aggregate-xor-at-5 : tie.Need-slice-aggregate-xor-at-5
-slice-aggregate-xor-at-5 c = front-length _ (c .before .before .before .before .before .before .before .before .args .positions .now) (c .before .if5 .taken)
-
-xor-at-requires-5 : tie.Need-xor-at-requires-5
-xor-at-requires-5 c κs = front-below _ _ _ (c .before .if5 .taken) (c .before .before .before .before .before .before .before .before .pre)
-
-returns-5 : tie.Need-returns-5
-returns-5 c = front-xor _ _ _ _ _ (c .before .before .if5 .taken) (c .xor-at5 .ensures)
-
-xor-at-requires-6 : tie.Need-xor-at-requires-6
-xor-at-requires-6 c κs = search needs
-
-returns-6 : tie.Need-returns-6
-returns-6 c = search needs
+returns-3 c = search needs
 
 pub xor-check-spec : {M : Type 1} → statement M
 xor-check-spec =
@@ -65,14 +38,5 @@ xor-check-spec =
     slice-aggregate-xor-at-2
     xor-at-requires-2
     returns-2
-    slice-aggregate-xor-at-3
     xor-at-requires-3
-    returns-3
-    slice-aggregate-xor-at-4
-    xor-at-requires-4
-    returns-4
-    slice-aggregate-xor-at-5
-    xor-at-requires-5
-    returns-5
-    xor-at-requires-6
-    returns-6)
+    returns-3)

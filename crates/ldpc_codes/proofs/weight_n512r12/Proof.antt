@@ -1,0 +1,26 @@
+-- `ldpc_codes::weight_n512r12` meets its contract: the table holds the code's rows. Assumes nothing.
+use native.Mathlib.Omega.{arith}
+use Rattle.construction.specs.Codes.{n512r12}
+use Rattle.staircase.proofs.N512R12.{taps0, taps-right0}
+use Rattle.stairs.proofs.Codes.{stairs0}
+use Rattle.ldpc_codes.proofs.Laid.{laid-judged}
+use borrow.Author.Needs.{needs}
+use Rattle.ldpc_codes.proofs.weight_n512r12.Statement.{statement}
+use Rattle.ldpc_codes.proofs.weight_n512r12.Tie as tie
+use Rattle.ldpc_codes.proofs.weight_n512r12.Reads as reads
+use Rattle.ldpc_codes.proofs.weight_n512r12.Lts as lts
+use Rattle.ldpc_codes.proofs.weight_over.Reads as weight-over-reads
+
+slice-aggregate-weight-over : tie.Need-slice-aggregate-weight-over
+slice-aggregate-weight-over c = search needs
+
+weight-over-requires : tie.Need-weight-over-requires
+unfolding taps0
+weight-over-requires c κs = stairs0 512 (omega arith)
+
+returns : tie.Need-returns
+unfolding taps0
+returns c = laid-judged n512r12 3 taps0 taps-right0 (c .before .before .before .args .hard .now) (c .weight-over .ensures)
+
+pub weight-n512r12-spec : {M : Type 1} → statement M
+weight-n512r12-spec = tie.close (tie.spec slice-aggregate-weight-over weight-over-requires returns)

@@ -1,0 +1,4 @@
+pub mod Columns
+pub mod Edges
+pub mod Pads
+pub mod Tables

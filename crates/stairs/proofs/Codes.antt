@@ -1,0 +1,45 @@
+-- Each code's table of message positions is what the calls ask: as long as M rows of its width, every entry a message position. By computation. Assumes nothing.
+use mathlib.Core.Path.{_≡_, refl}
+use mathlib.Core.Bool.{Bool, true, false, _&&_}
+use mathlib.Core.List.{List, [], _∷_}
+use Prim.Native.Nat.{ℕ, zero, suc, _<_, _≤_}
+use native.Mathlib.Omega.{arith}
+use borrow.Author.Tests.{ltb-true}
+use lib.Dec.{ltb}
+use lib.ListN.{length, getD}
+use Rattle.tanner.specs.Flat.{Below}
+use Rattle.staircase.proofs.N512R12.{taps0}
+use Rattle.staircase.proofs.N576R23.{taps1}
+use Rattle.staircase.proofs.N512R34.{taps2}
+use Rattle.stairs.specs.Stairs.{Stairs}
+
+-- a test of every entry
+unfoldable allBelow : ℕ → List ℕ → Bool
+allBelow n [] = true
+allBelow n (x ∷ xs) = ltb x n && allBelow n xs
+
+true-false : {A : Type 0} → _≡_ {A = Bool} false true → A
+true-false p = let n : _≡_ {A = ℕ} 0 1 = cc in absurd (omega arith)
+
+split : (a b : Bool) → (a && b) ≡ true → (a ≡ true) × (b ≡ true)
+split true true p = (refl, refl)
+split true false p = true-false p
+split false b p = true-false p
+
+tested : (n : ℕ) (xs : List ℕ) → allBelow n xs ≡ true → Below n xs
+unfolding allBelow Below
+tested n [] t k h = absurd (omega arith)
+tested n (x ∷ xs) t zero h = ltb-true x n (split (ltb x n) (allBelow n xs) t .0)
+tested n (x ∷ xs) t (suc k) h = tested n xs (split (ltb x n) (allBelow n xs) t .1) k (omega arith)
+
+pub stairs0 : (n : ℕ) → 512 ≤ n → Stairs 256 3 256 n taps0
+unfolding taps0 allBelow
+stairs0 n h = record { size = refl; low = tested 256 taps0 refl; room = h; few = omega arith }
+
+pub stairs1 : (n : ℕ) → 576 ≤ n → Stairs 384 6 192 n taps1
+unfolding taps1 allBelow
+stairs1 n h = record { size = refl; low = tested 384 taps1 refl; room = h; few = omega arith }
+
+pub stairs2 : (n : ℕ) → 512 ≤ n → Stairs 384 9 128 n taps2
+unfolding taps2 allBelow
+stairs2 n h = record { size = refl; low = tested 384 taps2 refl; room = h; few = omega arith }

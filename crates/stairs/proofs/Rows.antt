@@ -1,0 +1,135 @@
+-- A turn of each loop over a staircase code's rows: the row's place in the table, the XOR of the whole row from its parts, and what is left to do. Assumes nothing.
+use mathlib.Core.Path.{_≡_, refl, sym, ap, _∙_}
+use mathlib.Core.List.{List, [], _∷_, _++_}
+use Prim.Native.Nat.{ℕ, zero, suc, _+_, _-_, _*_, _%_, _<_, _≤_}
+use native.Mathlib.Nat.{add-zero, suc-mul, mul-le-mul-right, add-sub-cancel-left}
+use native.Mathlib.Numerals.{add-one}
+use native.Mathlib.Omega.{arith}
+use lib.Bits.{bitAnd, bitXor, and-mask, xor-zero-r}
+use lib.ListN.{length, getD, take, drop, set, length-set}
+use lib.Seq.{getD-set-same, getD-set-other}
+use Rattle.tanner.specs.Checks.{Checks, xorFrom, nonzero, countMasked}
+use Rattle.tanner.specs.Flat.{Below}
+use Rattle.tanner.proofs.Steps.{part-below}
+use Rattle.staircase.specs.Staircase.{parityEntries}
+use Rattle.staircase.specs.Shape.{tapsAt, stairRow, stairRows, stairs}
+use Rattle.stairs.specs.Stairs.{bitBefore, filled}
+
+-- ---- the row's place in the table
+
+pub row-fits : (width m i a n : ℕ) → i < m → a ≡ i * width → n ≡ m * width → a + width ≤ n
+row-fits width m i a n h e s =
+    let next : suc i ≤ m = h in
+    omega (arith, suc-mul i width, mul-le-mul-right width next)
+
+pub row-next : (width i a : ℕ) → a ≡ i * width → a + width ≡ (i + 1) * width
+row-next width i a e = rw add-one (omega (arith, suc-mul i width))
+
+pub row-part : (width i a : ℕ) (table : List ℕ) → a ≡ i * width → take (a + width - a) (drop a table) ≡ tapsAt width table i
+unfolding tapsAt
+row-part width i a table e = rw (add-sub-cancel-left a width, e)
+
+pub row-low : (k n width a : ℕ) (table : List ℕ) → k ≤ n → Below k table → Below n (take (a + width - a) (drop a table))
+unfolding Below
+row-low k n width a table h low j l = omega (arith, part-below k table a (a + width) low j l)
+
+-- ---- the rows that are left
+
+pub rows-more : (k width m : ℕ) (table : List ℕ) (i : ℕ) → i < m → stairRows k width table i (m - i) ≡ stairRow k width table i ∷ stairRows k width table (i + 1) (m - (i + 1))
+unfolding stairRows
+rows-more k width m table i h =
+    let e : m - i ≡ suc (m - (i + 1)) = omega arith in
+    rw (e, add-one i)
+
+pub rows-done : (k width m : ℕ) (table : List ℕ) (i : ℕ) → m ≤ i → stairRows k width table i (m - i) ≡ []
+unfolding stairRows
+rows-done k width m table i h =
+    let e : m - i ≡ 0 = omega arith in
+    rw e
+
+pub rows-all : (k width m : ℕ) (table : List ℕ) → stairRows k width table 0 (m - 0) ≡ stairs k width m table
+rows-all k width m table =
+    let e : m - 0 ≡ m = omega arith in
+    rw e
+
+-- ---- the XOR of a row
+
+xor-append : (x : ℕ) (ps qs bytes : List ℕ) → xorFrom x (ps ++ qs) bytes ≡ xorFrom (xorFrom x ps bytes) qs bytes
+unfolding xorFrom
+xor-append x [] qs bytes = refl
+xor-append x (p ∷ ps) qs bytes = xor-append (bitXor x (getD bytes p 0)) ps qs bytes
+
+entries-xor : (k i x : ℕ) (bytes : List ℕ) → xorFrom x (parityEntries k i) bytes ≡ bitXor (bitXor x (getD bytes (k + i) 0)) (bitBefore k i bytes)
+unfolding xorFrom parityEntries bitBefore
+entries-xor k zero x bytes = rw (add-zero k, xor-zero-r (bitXor x (getD bytes k 0)))
+entries-xor k (suc i) x bytes = refl
+
+-- its message positions, then its own parity bit, then the one before
+pub row-xor : (k width : ℕ) (table bytes : List ℕ) (i a x before : ℕ) → a ≡ i * width → x ≡ xorFrom 0 (take (a + width - a) (drop a table)) bytes → before ≡ bitBefore k i bytes
+    → bitXor (bitXor x (getD bytes (k + i) 0)) before ≡ xorFrom 0 (stairRow k width table i) bytes
+row-xor k width table bytes i a x before e f b =
+    let whole : x ≡ xorFrom 0 (tapsAt width table i) bytes = f ∙ ap (λ (ps : List ℕ). xorFrom 0 ps bytes) (row-part width i a table e) in
+    rw (whole, b) (sym (xor-append 0 (tapsAt width table i) (parityEntries k i) bytes ∙ entries-xor k i (xorFrom 0 (tapsAt width table i) bytes) bytes))
+
+pub before-more : (k i : ℕ) (bytes : List ℕ) → getD bytes (k + i) 0 ≡ bitBefore k (i + 1) bytes
+unfolding bitBefore
+before-more k i bytes = rw add-one
+
+pub before-none : (k : ℕ) (bytes : List ℕ) → 0 ≡ bitBefore k 0 bytes
+unfolding bitBefore
+before-none k bytes = refl
+
+-- the bit that was stored is the one before the next
+pub before-set : (k i v : ℕ) (w : List ℕ) → k + i < length w → v ≡ bitBefore k (i + 1) (set w (k + i) v)
+unfolding bitBefore
+before-set k i v w h = rw add-one (sym (getD-set-same w (k + i) v 0 h))
+
+-- ---- a parity bit filled in
+
+xor-other : (k at v x : ℕ) (ps bytes : List ℕ) → k ≤ at → Below k ps → xorFrom x ps (set bytes at v) ≡ xorFrom x ps bytes
+unfolding xorFrom Below
+xor-other k at v x [] bytes h low = refl
+xor-other k at v x (p ∷ ps) bytes h low =
+    let first : p < k = low 0 (omega arith) in
+    let same : getD (set bytes at v) p 0 ≡ getD bytes p 0 = getD-set-other bytes at p v 0 (λ e. omega arith) in
+    rw same (xor-other k at v (bitXor x (getD bytes p 0)) ps bytes h (λ j l. low (suc j) (omega arith)))
+
+before-other : (k i v : ℕ) (bytes : List ℕ) → bitBefore k i (set bytes (k + i) v) ≡ bitBefore k i bytes
+unfolding bitBefore
+before-other k zero v bytes = refl
+before-other k (suc i) v bytes = getD-set-other bytes (k + suc i) (k + i) v 0 (λ e. omega arith)
+
+nonzero-bit : (x : ℕ) → x < 2 → nonzero x ≡ x
+nonzero-bit zero h = refl
+nonzero-bit (suc zero) h = refl
+nonzero-bit (suc (suc x)) h = absurd (omega arith)
+
+nonzero-low : (y : ℕ) → nonzero (bitAnd y 1) ≡ bitAnd y 1
+nonzero-low y =
+    let e : bitAnd y 1 ≡ y % 2 = and-mask y 1 in
+    rw e (nonzero-bit (y % 2) (omega arith))
+
+module _ (k width : ℕ) (table w : List ℕ) (i a x before : ℕ) (e : a ≡ i * width) (f : x ≡ xorFrom 0 (take (a + width - a) (drop a table)) w) (b : before ≡ bitBefore k i w)
+    (low : Below k table) (inside : k + i < length w) where
+  -- what is stored is the count of the row alone, with the bit at 0
+  stored-bit : bitAnd (bitXor x before) 1 ≡ countMasked 1 (stairRow k width table i ∷ []) (set w (k + i) 0)
+  unfolding countMasked
+  stored-bit =
+      let v = set w (k + i) 0 in
+      let ps = take (a + width - a) (drop a table) in
+      let taps : x ≡ xorFrom 0 ps v = f ∙ sym (xor-other k (k + i) 0 0 ps w (omega arith) (part-below k table a (a + width) low)) in
+      let own : getD v (k + i) 0 ≡ 0 = getD-set-same w (k + i) 0 0 inside in
+      let row : bitXor (bitXor x (getD v (k + i) 0)) before ≡ xorFrom 0 (stairRow k width table i) v = row-xor k width table v i a x before e taps (b ∙ sym (before-other k i 0 w)) in
+      let less : bitXor x before ≡ xorFrom 0 (stairRow k width table i) v = (rw (own, xor-zero-r x) at row) in
+      rw less (omega (arith, nonzero-low (xorFrom 0 (stairRow k width table i) v)))
+
+  pub fill-more : (m : ℕ) (z : List ℕ) → i < m → filled (stairRows k width table i (m - i)) (k + i) w ≡ z
+      → filled (stairRows k width table (i + 1) (m - (i + 1))) (k + (i + 1)) (set w (k + i) (bitAnd (bitXor x before) 1)) ≡ z
+  unfolding filled
+  fill-more m z h inv =
+      let n : k + (i + 1) ≡ suc (k + i) = omega arith in
+      rw (n, stored-bit) (rw (rows-more k width m table i h) at inv)
+
+pub fill-done : (k width m : ℕ) (table : List ℕ) (i : ℕ) (w z : List ℕ) → m ≤ i → filled (stairRows k width table i (m - i)) (k + i) w ≡ z → w ≡ z
+unfolding filled
+fill-done k width m table i w z h inv = rw (rows-done k width m table i h) at inv

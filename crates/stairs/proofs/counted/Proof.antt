@@ -1,0 +1,22 @@
+-- `stairs::counted` meets its contract: the count and the first row, put together. Assumes nothing.
+use mathlib.Core.Path.{ap₂}
+use Rattle.tanner.proofs.First.{both}
+use borrow.Author.Needs.{needs}
+use Rattle.stairs.proofs.counted.Statement.{statement}
+use Rattle.stairs.proofs.counted.Tie as tie
+use Rattle.stairs.proofs.counted.Reads as reads
+use Rattle.stairs.proofs.counted.Lts as lts
+use Rattle.stairs.proofs.count.Reads as count-reads
+use Rattle.stairs.proofs.first_counted.Reads as first-counted-reads
+
+count-requires : tie.Need-count-requires
+count-requires c κs = search needs
+
+first-counted-requires : tie.Need-first-counted-requires
+first-counted-requires c κs = search needs
+
+returns : tie.Need-returns
+returns c = ap₂ both (c .before .count .ensures) (c .first-counted .ensures)
+
+pub counted-spec : {M : Type 1} → statement M
+counted-spec = tie.close (tie.spec count-requires first-counted-requires returns)
