@@ -100,7 +100,7 @@ joined-at k (l ∷ ls) size (suc j) h =
     let e : suc j * k ≡ length l + j * k = omega (arith, suc-mul j k) in
     rw (e, drop-append-add l (joined ls) (j * k)) (joined-at k ls (λ i q. size (suc i) (omega arith)) j (omega arith))
 
-llr-is : (code : ℕ) (r : DecodeRule) (llr : List Float) → length (decodeBy code r llr .llr) ≡ length llr
+pub llr-is : (code : ℕ) (r : DecodeRule) (llr : List Float) → length (decodeBy code r llr .llr) ≡ length llr
 unfolding decodeBy
 llr-is zero r llr = refl
 llr-is (suc zero) r llr = refl

@@ -58,7 +58,7 @@ pub fn message_bits(code: u32) -> usize
 // ---- refusals
 
 // Whether that rule is none of the code's.
-fn rule_not_of_code(code: u32, rule: u32) -> bool
+pub fn rule_not_of_code(code: u32, rule: u32) -> bool
     ensures { λ r. ⌜ r ≡ ruleNotOfCode code rule ⌝ }
 {
     if code != 3 {

@@ -31,10 +31,10 @@ nan-alone : (x : Float) → x ≡ nan → isNan x ≡ true
 unfolding isNan
 nan-alone x e = rw e
 
-differs : (x : Float) → Ieee.ne x x ≡ true → isNan x ≡ true
+pub differs : (x : Float) → Ieee.ne x x ≡ true → isNan x ≡ true
 differs x d = nan-alone x (differs-from-itself x (subst T (sym d) tt))
 
-same : (x : Float) → Ieee.ne x x ≡ false → isNan x ≡ false
+pub same : (x : Float) → Ieee.ne x x ≡ false → isNan x ≡ false
 unfolding isNan
 same nan d = sym nan-differs ∙ d
 same (inf s) d = refl

@@ -10,7 +10,13 @@ ghost use Rattle.bits.specs.Bits.{number};
 ghost use Rattle.crc.specs.Register.{turn};
 ghost use Rattle.crc.specs.Qex.{qex};
 ghost use Rattle.tanner.specs.Checks.{lowBits};
-ghost use Rattle.clean.specs.Clean.{anyNan, checksumRight, frameClean};
+ghost use Rattle.clean.specs.Clean.{anyNan, payloadChecksum, carriedChecksum, checksumRight, frameClean};
+
+// The checksum that a block's bits carry, and the one computed of its payload.
+pub struct Checksums {
+    pub carried: u16,
+    pub computed: u16,
+}
 
 // Whether one of the values is a NaN, which alone differs from itself.
 fn any_nan(values: &[f32]) -> bool
@@ -75,12 +81,23 @@ fn number_of(bytes: &[u8]) -> u16
     n
 }
 
+// Both checksums of the 91 bits.
+pub fn both_checksums(bits: &[u8]) -> Checksums
+    requires { ⌜ length (now bits) ≡ 91 ⌝ }
+    ensures { λ r. ⌜ (r .carried ≡ carriedChecksum (now (bits .entry))) × (r .computed ≡ payloadChecksum (now (bits .entry))) ⌝ }
+{
+    let computed = checksum_of(&bits[..77]);
+    let carried = number_of(&bits[77..91]);
+    Checksums { carried, computed }
+}
+
 // Whether the 91 bits carry their own checksum.
 fn checksum_right(bits: &[u8]) -> bool
     requires { ⌜ length (now bits) ≡ 91 ⌝ }
     ensures { λ r. ⌜ r ≡ checksumRight (now (bits .entry)) ⌝ }
 {
-    checksum_of(&bits[..77]) == number_of(&bits[77..91])
+    let both = both_checksums(bits);
+    both.computed == both.carried
 }
 
 // Whether a frame of that code with these values is clean: what it decoded to has that count and these bits.

@@ -1,0 +1,5 @@
+pub mod Steps
+pub mod Word
+pub mod Answers
+pub mod Holds
+pub mod Cases

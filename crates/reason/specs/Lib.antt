@@ -1,0 +1,3 @@
+pub mod Reasons
+pub mod Holds
+pub mod Calls
