@@ -34,6 +34,10 @@ hexDigit d = cond (ltb d 10) (48 + d) (87 + d)
 abbrev pub hexByte : ℕ → List ℕ
 hexByte b = hexDigit (b / 16) ∷ hexDigit (b % 16) ∷ []
 
+-- a number below 65,536, four digits
+abbrev pub hexWord : ℕ → List ℕ
+hexWord n = hexByte (n / 256) ++ hexByte (n % 256)
+
 -- the n bytes of the bits from i on
 unfoldable pub hexFrom : List ℕ → ℕ → ℕ → List ℕ
 hexFrom bits i zero = []

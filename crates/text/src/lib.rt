@@ -4,7 +4,7 @@ ghost use mathlib.Core.List.{[], _∷_};
 ghost use Prim.Native.Nat.{_+_, _<_, _≤_};
 ghost use lib.ListN.{length};
 ghost use Rattle.text.specs.Written.{Written};
-ghost use Rattle.text.specs.Text.{leading, decimal, bitAt, byteAt, hexDigit, hexByte, hex, field, refusalLine};
+ghost use Rattle.text.specs.Text.{leading, decimal, bitAt, byteAt, hexDigit, hexByte, hexWord, hex, field, refusalLine};
 
 // ---- texts and numbers, each written at a place of the buffer; the answer is the place after it
 
@@ -92,6 +92,17 @@ pub fn put_hex_byte(out: &mut [u8], at: usize, byte: u8) -> usize
 {
     let high = put_byte(out, at, hex_digit(byte / 16));
     put_byte(out, high, hex_digit(byte % 16))
+}
+
+// A number of two bytes, four digits.
+pub fn put_hex_word(out: &mut [u8], at: usize, n: u16) -> usize
+    requires { ⌜ at + 4 ≤ length (now out) ⌝ }
+    ensures { λ r. ⌜ Written (now (out .entry)) at (hexWord n) (now (out .exit)) r ⌝ }
+{
+    let high = n / 256;
+    let low = n % 256;
+    let next = put_hex_byte(out, at, high as u8);
+    put_hex_byte(out, next, low as u8)
 }
 
 // Bits packed into bytes, in hexadecimal.
