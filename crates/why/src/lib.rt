@@ -1,0 +1,244 @@
+// Why a frame of a batch is open, as a line of text: the program's input read, and what is printed for it written into a lent buffer.
+use batch::Room;
+use belief::WORK;
+use ldpc::tables::CHECK_BITS;
+use ldpc::tables::CHECK_STARTS;
+use reason::Reason;
+use refusal::Refusal;
+use refusal::Status;
+use staircase::tables::N512R12_CHECK_BITS;
+use staircase::tables::N512R12_CHECK_STARTS;
+use staircase::tables::N512R34_CHECK_BITS;
+use staircase::tables::N512R34_CHECK_STARTS;
+use staircase::tables::N576R23_CHECK_BITS;
+use staircase::tables::N576R23_CHECK_STARTS;
+ghost use mathlib.Core.Path.{_≡_};
+ghost use mathlib.Core.List.{[]};
+ghost use mathlib.Core.Bool.{false};
+ghost use Prim.Native.Nat.{_+_, _<_, _≤_};
+ghost use lib.ListN.{length, take};
+ghost use Rattle.refusal.specs.Outcome.{judged};
+ghost use Rattle.refusal.specs.Answers.{statusOf};
+ghost use Rattle.tanner.specs.Flat.{Below, FlatChecks, rowsOf};
+ghost use Rattle.text.specs.Written.{Written};
+ghost use Rattle.batch.specs.Codes.{sizeN};
+ghost use Rattle.batch.specs.Pairs.{pairsOf, AllWithin};
+ghost use Rattle.batch.specs.Calls.{lent, batch};
+ghost use Rattle.batch_input.specs.Input.{codeOf, ruleOf, limitOf, scaleOf, pairNumbers, valuesOf, malformed};
+ghost use Rattle.reason.specs.Reasons.{checksOf};
+ghost use Rattle.why.specs.Lines.{nanLine, entry, entries, checkLine, checksumLine, reasonLine, Named};
+ghost use Rattle.why.specs.Why.{askedRefusals, frameAt, frameLine, whyOf, askedLine};
+
+// ---- lines
+
+fn nan_line(out: &mut [u8], p: u16) -> usize
+    requires { ⌜ length (nanLine p) ≤ length (now out) ⌝ }
+    ensures { λ r. ⌜ Written (now (out .entry)) 0 (nanLine p) (now (out .exit)) r ⌝ }
+{
+    let at = text::put_field(out, 0, b"nan ", p);
+    text::put_byte(out, at, 10)
+}
+
+// A position and its bit.
+fn put_entry(out: &mut [u8], at: usize, p: u16, bit: u8) -> usize
+    requires { ⌜ at + length (entry p bit) ≤ length (now out) ⌝ }
+    ensures { λ r. ⌜ Written (now (out .entry)) at (entry p bit) (now (out .exit)) r ⌝ }
+{
+    let next = text::put_field(out, at, b" ", p);
+    text::put_field(out, next, b":", bit as u16)
+}
+
+fn put_entries(out: &mut [u8], at: usize, positions: &[u16], word: &[u8]) -> usize
+    requires { ⌜ Below (length (now word)) (now positions) ⌝ }
+    requires { ⌜ at + length (entries (now positions) (now word)) ≤ length (now out) ⌝ }
+    ensures { λ r. ⌜ Written (now (out .entry)) at (entries (now (positions .entry)) (now (word .entry))) (now (out .exit)) r ⌝ }
+{
+    let mut next = at;
+    let mut i = 0;
+    while i < positions.len() {
+        let p = positions[i];
+        let k = p as usize;
+        next = put_entry(out, next, p, word[k]);
+        i += 1;
+    }
+    next
+}
+
+// Check c of the checks that lie flat.
+fn check_over(out: &mut [u8], starts: &[u16], flat: &[u16], c: u16, word: &[u8]) -> usize
+    requires { ⌜ FlatChecks (now starts) (now flat) (length (now word)) ⌝ }
+    requires { ⌜ c + 1 < length (now starts) ⌝ }
+    requires { ⌜ length (checkLine (rowsOf (now starts) (now flat)) (now word) c) ≤ length (now out) ⌝ }
+    ensures { λ r. ⌜ Written (now (out .entry)) 0 (checkLine (rowsOf (now (starts .entry)) (now (flat .entry))) (now (word .entry)) c) (now (out .exit)) r ⌝ }
+{
+    let i = c as usize;
+    let a = starts[i] as usize;
+    let b = starts[i + 1] as usize;
+    let at = text::put_field(out, 0, b"check ", c);
+    let next = put_entries(out, at, &flat[a..b], word);
+    text::put_byte(out, next, 10)
+}
+
+// Check c of the code with that number.
+fn check_line(out: &mut [u8], code: u32, c: u16, word: &[u8]) -> usize
+    requires { ⌜ code < 4 ⌝ }
+    requires { ⌜ length (now word) ≡ sizeN code ⌝ }
+    requires { ⌜ c < length (checksOf code) ⌝ }
+    requires { ⌜ 256 ≤ length (now out) ⌝ }
+    ensures { λ r. ⌜ Written (now (out .entry)) 0 (checkLine (checksOf code) (now (word .entry)) c) (now (out .exit)) r ⌝ }
+{
+    if code == 0 {
+        return check_over(out, &N512R12_CHECK_STARTS, &N512R12_CHECK_BITS, c, word);
+    }
+    if code == 1 {
+        return check_over(out, &N576R23_CHECK_STARTS, &N576R23_CHECK_BITS, c, word);
+    }
+    if code == 2 {
+        return check_over(out, &N512R34_CHECK_STARTS, &N512R34_CHECK_BITS, c, word);
+    }
+    check_over(out, &CHECK_STARTS, &CHECK_BITS, c, word)
+}
+
+fn checksum_line(out: &mut [u8], carried: u16, computed: u16) -> usize
+    requires { ⌜ length (checksumLine carried computed) ≤ length (now out) ⌝ }
+    ensures { λ r. ⌜ Written (now (out .entry)) 0 (checksumLine carried computed) (now (out .exit)) r ⌝ }
+{
+    let a = text::put_text(out, 0, b"checksum ");
+    let b = text::put_hex_word(out, a, carried);
+    let c = text::put_byte(out, b, 32);
+    let d = text::put_hex_word(out, c, computed);
+    text::put_byte(out, d, 10)
+}
+
+// The line of a reason, of the code with that number and a word.
+fn reason_line(out: &mut [u8], code: u32, reason: Reason, word: &[u8]) -> usize
+    requires { ⌜ code < 4 ⌝ }
+    requires { ⌜ length (now word) ≡ sizeN code ⌝ }
+    requires { ⌜ Named (checksOf code) reason ⌝ }
+    requires { ⌜ 256 ≤ length (now out) ⌝ }
+    ensures { λ r. ⌜ Written (now (out .entry)) 0 (reasonLine (checksOf code) (now (word .entry)) reason) (now (out .exit)) r ⌝ }
+    ensures { λ r. ⌜ r ≤ 256 ⌝ }
+{
+    match reason {
+        Reason::Nan(p) => nan_line(out, p),
+        Reason::Check(c) => check_line(out, code, c, word),
+        Reason::Checksum { carried, computed } => checksum_line(out, carried, computed),
+        Reason::Clean => text::put_text(out, 0, b"clean\n"),
+    }
+}
+
+// ---- the frame asked about
+
+fn word_room() -> [u8; 576]
+    ensures { λ r. ⌜ 576 ≡ length r ⌝ }
+{
+    [0; 576]
+}
+
+// Whether a batch and a place in it are turned down, and by which number: the batch's refusals, and then the place.
+fn input_fault(place: u16, input: &[u8], values: &[f32], pairs: &[u32]) -> Status
+    requires { ⌜ malformed (now input) ≡ false ⌝ }
+    requires { ⌜ now values ≡ valuesOf (now input) ⌝ }
+    requires { ⌜ now pairs ≡ take 50 (pairNumbers (now input)) ⌝ }
+    ensures { λ r. ⌜ statusOf r ≡ judged (askedRefusals place (now (input .entry))) tt ⌝ }
+{
+    let head = batch_input::read_header(input);
+    let frames = batch_input::pair_count(input);
+    let room = Room {
+        bits: frames * batch::message_bits(head.code),
+        counts: frames,
+        rounds: frames,
+        firsts: frames,
+        work: WORK,
+    };
+    if let Status::Refused(r) = batch::batch_fault(
+        head.code,
+        head.rule,
+        values.len(),
+        pairs,
+        room,
+    ) {
+        return Status::Refused(r);
+    }
+    if place as usize >= frames {
+        return Status::Refused(Refusal::NoSuchPlace);
+    }
+    Status::Done
+}
+
+// The line of the frame that a pair names: so many pairs name frames within the values.
+fn explain(place: u16, input: &[u8], values: &[f32], pairs: &[u32], out: &mut [u8]) -> usize
+    requires { ⌜ (12 ≤ length (now input)) × (codeOf (now input) < 4) ⌝ }
+    requires { ⌜ AllWithin (sizeN (codeOf (now input))) (length (now values)) (pairsOf (now pairs)) ⌝ }
+    requires { ⌜ place < length (pairsOf (now pairs)) ⌝ }
+    requires { ⌜ 256 ≤ length (now out) ⌝ }
+    ensures { λ r. ⌜ Written (now (out .entry)) 0
+        (let b = batch (codeOf (now (input .entry))) (ruleOf (now (input .entry))) (limitOf (now (input .entry))) (scaleOf (now (input .entry)))
+        (now (values .entry)) (pairsOf (now (pairs .entry))) (lent [] [] [] [] []) in frameLine b (frameAt b place))
+        (now (out .exit)) r ⌝ }
+    ensures { λ r. ⌜ r ≤ 256 ⌝ }
+{
+    let head = batch_input::read_header(input);
+    let code = head.code;
+    let j = place as usize;
+    let from = pairs[j * 2] as usize;
+    let n = batch::frame_values(code);
+    let to = from + n;
+    let mut word = word_room();
+    let mut work = [0.0f32; WORK];
+    let found = reason::find_reason(
+        code,
+        head.rule,
+        head.scale,
+        head.limit,
+        &values[from..to],
+        &mut word[..n],
+        &mut work,
+    );
+    reason_line(out, code, found, &word[..n])
+}
+
+// The line for a batch that is not malformed, its values and pairs read.
+fn why_frame(place: u16, input: &[u8], values: &[f32], pairs: &[u32], out: &mut [u8]) -> usize
+    requires { ⌜ malformed (now input) ≡ false ⌝ }
+    requires { ⌜ now values ≡ valuesOf (now input) ⌝ }
+    requires { ⌜ now pairs ≡ take 50 (pairNumbers (now input)) ⌝ }
+    requires { ⌜ 256 ≤ length (now out) ⌝ }
+    ensures { λ r. ⌜ Written (now (out .entry)) 0 (askedLine place (now (input .entry))) (now (out .exit)) r ⌝ }
+    ensures { λ r. ⌜ r ≤ 256 ⌝ }
+{
+    if let Status::Refused(r) = input_fault(place, input, values, pairs) {
+        return text::refusal_line(out, 0, refusal::number(r) as u16);
+    }
+    explain(place, input, values, pairs, out)
+}
+
+// The line for a batch that is not malformed.
+fn why_input(place: u16, input: &[u8], out: &mut [u8]) -> usize
+    requires { ⌜ malformed (now input) ≡ false ⌝ }
+    requires { ⌜ 256 ≤ length (now out) ⌝ }
+    ensures { λ r. ⌜ Written (now (out .entry)) 0 (askedLine place (now (input .entry))) (now (out .exit)) r ⌝ }
+    ensures { λ r. ⌜ r ≤ 256 ⌝ }
+{
+    let mut pairs = batch_input::pairs_room();
+    let words = batch_input::read_pairs(input, &mut pairs);
+    let mut values = batch_input::values_room();
+    let n = batch_input::read_values(input, &mut values);
+    why_frame(place, input, &values[..n], &pairs[..words], out)
+}
+
+// Why the frame at a place of a batch is open: the line at the front of the buffer; the answer is its length.
+pub fn why(input: &[u8], out: &mut [u8]) -> usize
+    requires { ⌜ 256 ≤ length (now out) ⌝ }
+    ensures { λ r. ⌜ Written (now (out .entry)) 0 (whyOf (now (input .entry))) (now (out .exit)) r ⌝ }
+    ensures { λ r. ⌜ r ≤ 256 ⌝ }
+{
+    if input.len() < 2 {
+        return text::refusal_line(out, 0, 13);
+    }
+    if batch_input::is_malformed(&input[2..]) {
+        return text::refusal_line(out, 0, 13);
+    }
+    let place = batch_input::u16_at(input, 0);
+    why_input(place, &input[2..], out)
+}
