@@ -1,6 +1,6 @@
 -- The refusals of a place and a batch as the code tests them: the pairs that are handed on and the room that is said to be lent are judged as the whole
 -- batch; and the line that is printed. Assumes nothing.
-use mathlib.Core.Path.{_≡_, refl, sym, ap, _∙_}
+use mathlib.Core.Path.{_≡_, refl, sym, _∙_}
 use mathlib.Core.Bool.{not}
 use mathlib.Core.List.{List, []}
 use Prim.Native.Nat.{ℕ, _*_, _<_, _≤_}
@@ -10,13 +10,12 @@ use borrow.Author.Tests.{lt-ltb, le-ltb, ltb-true, not-false}
 use lib.Dec.{ltb}
 use lib.Ieee.{Float}
 use lib.ListN.{length, take}
-use Rattle.refusal.specs.Outcome.{refused, judged}
+use Rattle.refusal.specs.Outcome.{refused}
 use Rattle.refusal.proofs.Judged.{verdict, nothing, passed-by, judged-past, judged-front, judged-accepted, judged-refused, accepted-front, accepted-rest}
 use Rattle.text.specs.Text.{refusalLine}
 use Rattle.batch.specs.Codes.{sizeN, sizeK}
 use Rattle.batch.specs.Pairs.{pairsOf, AllWithin}
 use Rattle.batch.specs.Calls.{lent, batch, roomOf, refusalsOf, refusals}
-use Rattle.batch.specs.declared.Room.{Room}
 use Rattle.batch.proofs.Sizes.{size-small}
 use Rattle.batch.proofs.Whole.{all-good, all-inside}
 use Rattle.batch_input.specs.Input.{codeOf, ruleOf, limitOf, scaleOf, pairCount, pairNumbers, valuesOf}

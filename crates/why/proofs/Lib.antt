@@ -4,3 +4,5 @@ pub mod Tables
 pub mod Asked
 pub mod Frame
 pub mod Whole
+pub mod Promise
+pub mod Cases

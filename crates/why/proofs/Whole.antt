@@ -1,5 +1,5 @@
 -- The line of an input, by what the program tests first: whether the place is cut, and whether the batch after it is malformed. Assumes nothing.
-use mathlib.Core.Path.{_≡_, refl}
+use mathlib.Core.Path.{_≡_}
 use mathlib.Core.Bool.{true, false}
 use mathlib.Core.List.{List}
 use Prim.Native.Nat.{ℕ, _-_, _<_, _≤_}

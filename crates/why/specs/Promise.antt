@@ -5,7 +5,7 @@ use mathlib.Core.Bool.{Bool, true}
 use mathlib.Core.List.{List}
 use Prim.Native.Nat.{ℕ}
 use lib.Ieee.{Float}
-use Rattle.refusal.specs.Outcome.{Outcome, accepted, judged}
+use Rattle.refusal.specs.Outcome.{accepted, judged}
 use Rattle.tanner.specs.Checks.{Word}
 use Rattle.belief.specs.Rounds.{chosen}
 use Rattle.batch.specs.Calls.{Batch, frameDecode}

@@ -69,7 +69,8 @@ fn check_over(out: &mut [u8], starts: &[u16], flat: &[u16], c: u16, word: &[u8])
     requires { ⌜ FlatChecks (now starts) (now flat) (length (now word)) ⌝ }
     requires { ⌜ c + 1 < length (now starts) ⌝ }
     requires { ⌜ length (checkLine (rowsOf (now starts) (now flat)) (now word) c) ≤ length (now out) ⌝ }
-    ensures { λ r. ⌜ Written (now (out .entry)) 0 (checkLine (rowsOf (now (starts .entry)) (now (flat .entry))) (now (word .entry)) c) (now (out .exit)) r ⌝ }
+    ensures { λ r. ⌜ Written (now (out .entry)) 0
+        (checkLine (rowsOf (now (starts .entry)) (now (flat .entry))) (now (word .entry)) c) (now (out .exit)) r ⌝ }
 {
     let i = c as usize;
     let a = starts[i] as usize;

@@ -1,6 +1,5 @@
 -- `why::check_line` meets its contract: each code's tables hold its checks. Assumes nothing.
-use mathlib.Core.Path.{_≡_, sym, _∙_}
-use Prim.Native.Nat.{_<_}
+use mathlib.Core.Path.{_≡_}
 use native.Mathlib.Omega.{arith}
 use Rattle.staircase.proofs.N512R12.{checkStarts0, checkBits0}
 use Rattle.staircase.proofs.N576R23.{checkStarts1, checkBits1}

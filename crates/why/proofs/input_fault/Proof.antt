@@ -1,9 +1,8 @@
 -- `why::input_fault` meets its contract: the batch's refusals, and then the place. Assumes nothing.
 use mathlib.Core.Path.{_≡_, sym, ap, _∙_}
 use mathlib.Core.List.{List}
-use Prim.Native.Nat.{ℕ, _*_, _≤_}
+use Prim.Native.Nat.{ℕ, _*_}
 use native.Mathlib.Omega.{arith}
-use Rattle.refusal.specs.Outcome.{Outcome}
 use Rattle.refusal.specs.Answers.{statusOf}
 use Rattle.refusal.proofs.Judged.{verdict}
 use Rattle.batch.specs.Calls.{refusals}
@@ -36,7 +35,8 @@ found b =
     let m = b .before in
     let a = entry (head m) in
     b .batch-fault .ensures
-    ∙ batch-verdict (input m) (head m .read-header .result) (head m .read-header .ensures) _ _ (frames m) (m .message-bits .ensures) (a .args .values .now) (a .pre .1 .0) (a .args .pairs .now) (a .pre .1 .1)
+    ∙ batch-verdict (input m) (head m .read-header .result) (head m .read-header .ensures) _ _ (frames m) (m .message-bits .ensures)
+    (a .args .values .now) (a .pre .1 .0) (a .args .pairs .now) (a .pre .1 .1)
 
 -- ---- the needs
 

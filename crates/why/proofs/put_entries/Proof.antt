@@ -1,6 +1,6 @@
 -- `why::put_entries` meets its contract. The invariant: with the entries that are left put where the loop stands, the buffer holds all of them.
 -- Assumes nothing.
-use mathlib.Core.Path.{_≡_, ap, _∙_}
+use mathlib.Core.Path.{_≡_, ap}
 use mathlib.Core.List.{List, _++_}
 use Prim.Native.Nat.{ℕ, _+_, _-_, _≤_}
 use native.Mathlib.Omega.{arith}

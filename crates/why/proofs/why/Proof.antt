@@ -1,13 +1,11 @@
 -- `why::why` meets its contract. A cut place and a malformed batch are refused before all else. Assumes nothing.
 use mathlib.Core.Path.{_≡_, sym, ap, ap₂, _∙_}
-use mathlib.Core.Bool.{false}
 use mathlib.Core.List.{List}
-use Prim.Native.Nat.{ℕ, _-_}
+use Prim.Native.Nat.{ℕ}
 use native.Mathlib.Omega.{arith}
-use lib.ListN.{length, take}
 use Rattle.text.proofs.Lengths.{refusal-short}
 use Rattle.batch_input.specs.Input.{malformed}
-use Rattle.why.specs.Why.{placeOf, batchOf, askedLine}
+use Rattle.why.specs.Why.{batchOf, askedLine}
 use Rattle.why.proofs.Whole.{rest-is, cut-line, malformed-line, asked-why}
 use borrow.Author.Needs.{needs}
 use Rattle.why.proofs.why.Statement.{statement}

@@ -1,9 +1,8 @@
 -- `why::why_frame` meets its contract: the line of a refusal, or that of the frame. Assumes nothing.
-use mathlib.Core.Path.{_≡_, sym, ap, ap₂, _∙_}
-use mathlib.Core.List.{List, []}
+use mathlib.Core.Path.{_≡_, sym, ap, _∙_}
+use mathlib.Core.List.{List}
 use Prim.Native.Nat.{ℕ}
 use native.Mathlib.Omega.{arith}
-use lib.Ieee.{Float}
 use Rattle.refusal.specs.Answers.{statusOf}
 use Rattle.refusal.proofs.Judged.{verdict, nothing}
 use Rattle.text.specs.Text.{refusalLine}
