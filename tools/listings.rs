@@ -4,138 +4,15 @@
 //
 //     ORION_SRC=folder rustc --edition 2021 -O tools/listings.rs -o listings && ./listings
 //
-// The Rust has no batch and no refusals: the pairs' tests and the lines are written here anew from document 01.
+// The Rust has no batch and no refusals: the pairs' tests (tools/batches.rs) and the lines are written anew from document 01.
 #[allow(dead_code)]
-mod crc {
-    include!(concat!(env!("ORION_SRC"), "/crc.rs"));
-}
-#[allow(dead_code)]
-mod ldpc {
-    include!(concat!(env!("ORION_SRC"), "/ldpc.rs"));
-    include!("../rust/tests/original/ldpc.rs");
-}
-#[allow(dead_code)]
-mod ldpc_codes {
-    include!(concat!(env!("ORION_SRC"), "/ldpc_codes.rs"));
-    include!("../rust/tests/original/ldpc_codes.rs");
-}
+mod batches;
 
-use ldpc_codes::{DecodeRule, Ldpc, LdpcCode};
+use batches::*;
 use std::fmt::Write;
 use std::fs;
 
 // ---- the listing of an input
-
-const STAIRCASE: [LdpcCode; 3] = [LdpcCode::N512R12, LdpcCode::N576R23, LdpcCode::N512R34];
-
-struct Codes {
-    encoders: [Ldpc; 3],
-    decoders: [Ldpc; 3],
-    checks: [Vec<Vec<usize>>; 4],
-}
-
-impl Codes {
-    fn new() -> Codes {
-        let encoders = STAIRCASE.map(Ldpc::new);
-        let decoders = STAIRCASE.map(|code| Ldpc::new(code).whole());
-        let [a, b, c] = [0, 1, 2].map(|code: usize| encoders[code].checks());
-        Codes { encoders, decoders, checks: [a, b, c, ldpc::checks()] }
-    }
-
-    fn n(&self, code: u8) -> usize {
-        if code == 3 { ldpc::N } else { STAIRCASE[code as usize].n() }
-    }
-
-    fn k(&self, code: u8) -> usize {
-        if code == 3 { ldpc::K } else { STAIRCASE[code as usize].k() }
-    }
-
-    // All N bits of the word that the Rust chooses, and its count; of rule 4, the word that document 02 says. Rule 3 is the
-    // house default: scaled min-sum at 0.75, and rule 4 on code 3.
-    fn decode(&self, code: u8, rule: u8, scale: f32, limit: u16, llr: &[f32]) -> (Vec<u8>, usize) {
-        if code == 3 {
-            let mut plain = [0u8; ldpc::N];
-            let decoder = if rule >= 3 { ldpc::decode_rule_4 } else { ldpc::ldpc_decode_soft };
-            let count = decoder(llr.try_into().unwrap(), limit as usize, &mut plain);
-            return (plain.to_vec(), count);
-        }
-        let rule = match rule {
-            1 => DecodeRule::MinSum,
-            2 => DecodeRule::ScaledMinSum(scale),
-            3 => DecodeRule::ScaledMinSum(0.75),
-            _ => DecodeRule::SumProduct,
-        };
-        self.decoders[code as usize].decode_soft_with(llr, limit as usize, rule)
-    }
-
-    // The rounds run: the least limit under which the count is 0, or else the limit.
-    fn rounds(&self, code: u8, rule: u8, scale: f32, limit: u16, llr: &[f32], count: usize) -> u16 {
-        if count != 0 {
-            return limit;
-        }
-        (0..=limit).find(|&less| self.decode(code, rule, scale, less, llr).1 == 0).unwrap()
-    }
-
-    // The lowest check that the word does not satisfy.
-    fn first(&self, code: u8, word: &[u8]) -> Option<usize> {
-        let odd = |bits: &Vec<usize>| bits.iter().map(|&bit| word[bit]).sum::<u8>() % 2 == 1;
-        self.checks[code as usize].iter().position(odd)
-    }
-}
-
-fn u16_at(s: &[u8], i: usize) -> u16 {
-    u16::from_le_bytes([s[i], s[i + 1]])
-}
-
-fn u32_at(s: &[u8], i: usize) -> u32 {
-    u32::from_le_bytes([s[i], s[i + 1], s[i + 2], s[i + 3]])
-}
-
-fn malformed(s: &[u8]) -> bool {
-    if s.len() > 65536 || s.len() < 12 || s[10] != 0 || s[11] != 0 {
-        return true;
-    }
-    let start = 12 + 8 * u16_at(s, 8) as usize;
-    s.len() < start || (s.len() - start) % 4 != 0
-}
-
-fn pair_refusal(pairs: &[(u64, u64)], n: u64, values: u64) -> Option<u8> {
-    let mut end = 0;
-    for &(offset, length) in pairs {
-        if length != n {
-            return Some(10);
-        }
-        if offset < end {
-            return Some(11);
-        }
-        if offset + length > values {
-            return Some(12);
-        }
-        end = offset + length;
-    }
-    None
-}
-
-fn refusal(codes: &Codes, code: u8, rule: u8, pairs: &[(u64, u64)], values: u64) -> Option<u8> {
-    if code > 3 {
-        return Some(1);
-    }
-    if rule > 4 {
-        return Some(2);
-    }
-    if if code == 3 { rule == 1 || rule == 2 } else { rule == 4 } {
-        return Some(3);
-    }
-    if pairs.len() > 24 {
-        return Some(7);
-    }
-    pair_refusal(pairs, codes.n(code) as u64, values)
-}
-
-fn packed(bits: &[u8]) -> Vec<u8> {
-    let byte = |part: &[u8]| part.iter().enumerate().map(|(i, bit)| bit << (7 - i)).sum();
-    bits.chunks(8).map(byte).collect()
-}
 
 fn hex(bits: &[u8]) -> String {
     let mut text = String::new();
@@ -143,13 +20,6 @@ fn hex(bits: &[u8]) -> String {
         write!(text, "{byte:02x}").unwrap();
     }
     text
-}
-
-// The block with the checksum that the Rust stores for its payload.
-fn checksummed(block: &[u8; ldpc::K_BYTES]) -> [u8; ldpc::K_BYTES] {
-    let mut stored = [0u8; ldpc::K_BYTES];
-    crc::ft8_add_crc(block[..10].try_into().unwrap(), &mut stored);
-    stored
 }
 
 // Change request N2: the count is 0, no value is NaN, and code 3's bits carry their payload's checksum.
@@ -165,25 +35,14 @@ fn clean(code: u8, llr: &[f32], bits: &[u8], count: usize) -> bool {
 }
 
 fn listing(codes: &Codes, s: &[u8]) -> String {
-    if malformed(s) {
-        return "refused 13\n".to_string();
-    }
-    let (code, rule, limit) = (s[0], s[1], u16_at(s, 2));
-    let scale = f32::from_bits(u32_at(s, 4));
-    let frames = u16_at(s, 8) as usize;
-    let pairs: Vec<(u64, u64)> = (0..frames)
-        .map(|j| (u32_at(s, 12 + 8 * j) as u64, u32_at(s, 16 + 8 * j) as u64))
-        .collect();
-    let values: Vec<f32> = s[12 + 8 * frames..]
-        .chunks(4)
-        .map(|b| f32::from_bits(u32_at(b, 0)))
-        .collect();
-    if let Some(number) = refusal(codes, code, rule, &pairs, values.len() as u64) {
-        return format!("refused {number}\n");
-    }
-    let mut text = format!("code {code} rule {rule} limit {limit} frames {frames}\n");
-    for (place, &(offset, length)) in pairs.iter().enumerate() {
-        let llr = &values[offset as usize..(offset + length) as usize];
+    let batch = match Batch::read(codes, s) {
+        Ok(batch) => batch,
+        Err(number) => return format!("refused {number}\n"),
+    };
+    let Batch { code, rule, limit, scale, .. } = batch;
+    let mut text = format!("code {code} rule {rule} limit {limit} frames {}\n", batch.pairs.len());
+    for place in 0..batch.pairs.len() {
+        let llr = batch.frame(place);
         let (word, count) = codes.decode(code, rule, scale, limit, llr);
         let rounds = codes.rounds(code, rule, scale, limit, llr, count);
         let bits = &word[..codes.k(code)];
@@ -195,228 +54,6 @@ fn listing(codes: &Codes, s: &[u8]) -> String {
 }
 
 // ---- inputs
-
-#[derive(Clone)]
-struct Input {
-    code: u8,
-    rule: u8,
-    limit: u16,
-    scale: u32,
-    pairs: Vec<(u32, u32)>,
-    values: Vec<u32>,
-}
-
-impl Input {
-    fn new(code: u8, rule: u8, limit: u16) -> Input {
-        Input { code, rule, limit, scale: 0, pairs: vec![], values: vec![] }
-    }
-
-    fn scale(mut self, bits: u32) -> Input {
-        self.scale = bits;
-        self
-    }
-
-    fn pair(mut self, offset: u32, length: u32) -> Input {
-        self.pairs.push((offset, length));
-        self
-    }
-
-    fn values(mut self, values: &[f32]) -> Input {
-        self.values.extend(values.iter().map(|v| v.to_bits()));
-        self
-    }
-
-    // The values, with a pair that names them.
-    fn frame(self, values: &[f32]) -> Input {
-        let at = self.values.len() as u32;
-        self.pair(at, values.len() as u32).values(values)
-    }
-
-    fn bytes(&self) -> Vec<u8> {
-        let mut s = vec![self.code, self.rule];
-        s.extend(self.limit.to_le_bytes());
-        s.extend(self.scale.to_le_bytes());
-        s.extend((self.pairs.len() as u16).to_le_bytes());
-        s.extend([0, 0]);
-        for (offset, length) in &self.pairs {
-            s.extend(offset.to_le_bytes());
-            s.extend(length.to_le_bytes());
-        }
-        for bits in &self.values {
-            s.extend(bits.to_le_bytes());
-        }
-        s
-    }
-}
-
-struct Random(u64);
-
-impl Random {
-    fn word(&mut self) -> u32 {
-        self.0 ^= self.0 << 13;
-        self.0 ^= self.0 >> 7;
-        self.0 ^= self.0 << 17;
-        (self.0 >> 32) as u32
-    }
-
-    // About normal, with the variance 1: a sum of twelve.
-    fn normal(&mut self) -> f32 {
-        (0..12).map(|_| self.word() as f32 / 4294967296.0).sum::<f32>() - 6.0
-    }
-}
-
-// Any 91 bits in 12 bytes, as a rule with a wrong checksum.
-fn block(random: &mut Random) -> [u8; ldpc::K_BYTES] {
-    let mut block = [0u8; ldpc::K_BYTES];
-    for byte in block.iter_mut() {
-        *byte = random.word() as u8;
-    }
-    block[11] &= 0xE0;
-    block
-}
-
-fn encoded(block: &[u8; ldpc::K_BYTES]) -> Vec<u8> {
-    let mut word = [0u8; ldpc::N_BYTES];
-    ldpc::ldpc_encode(block, &mut word);
-    (0..ldpc::N).map(|i| word[i / 8] >> (7 - i % 8) & 1).collect()
-}
-
-fn codeword(codes: &Codes, code: u8, random: &mut Random) -> Vec<u8> {
-    if code == 3 {
-        return encoded(&block(random));
-    }
-    let c = &codes.encoders[code as usize];
-    let message: Vec<u8> = (0..c.k()).map(|_| random.word() as u8 & 1).collect();
-    c.encode(&message)
-}
-
-// A codeword whose frame is clean: that of code 3 carries its checksum.
-fn sent(codes: &Codes, code: u8, random: &mut Random) -> Vec<u8> {
-    if code == 3 {
-        return encoded(&checksummed(&block(random)));
-    }
-    codeword(codes, code, random)
-}
-
-// The word's log-likelihood ratios after noise of that deviation; a positive value is a zero.
-fn received(word: &[u8], noise: f32, random: &mut Random) -> Vec<f32> {
-    word.iter()
-        .map(|&bit| 2.0 / (noise * noise) * (if bit == 0 { 1.0 } else { -1.0 } + noise * random.normal()))
-        .collect()
-}
-
-// The same of a random codeword.
-fn noisy(codes: &Codes, code: u8, noise: f32, random: &mut Random) -> Vec<f32> {
-    received(&codeword(codes, code, random), noise, random)
-}
-
-// Malformed inputs, and some that are just not.
-fn malformed_inputs(all: &mut Vec<Vec<u8>>) {
-    let head = Input::new(3, 0, 20).bytes();
-    all.push(vec![]);
-    all.push(head[..11].to_vec());
-    all.push(head.clone());
-    for place in [10, 11] {
-        let mut s = head.clone();
-        s[place] = 1;
-        all.push(s);
-    }
-    for extra in 1..5 {
-        let mut s = head.clone();
-        s.extend(vec![0; extra]);
-        all.push(s);
-    }
-    let one = Input::new(3, 0, 20).pair(0, 174).bytes();
-    for length in [12, 13, 19, 20] {
-        all.push(one[..length].to_vec());
-    }
-    // 13 before 1, 2 and 3
-    for (code, rule) in [(4, 0), (0, 5), (0, 4), (3, 1)] {
-        let mut s = Input::new(code, rule, 0).bytes();
-        s.push(0);
-        all.push(s);
-    }
-}
-
-fn refused_inputs(all: &mut Vec<Vec<u8>>) {
-    for (code, rule) in [(4, 0), (255, 255), (0, 5), (3, 255), (3, 5), (3, 1), (3, 2), (0, 4), (1, 4), (2, 4), (4, 4), (4, 5), (2, 3), (3, 4)] {
-        all.push(Input::new(code, rule, 7).bytes());
-    }
-    let values = [1.0f32; 348];
-    let two = |a: (u32, u32), b: (u32, u32)| Input::new(3, 0, 1).pair(a.0, a.1).pair(b.0, b.1).values(&values).bytes();
-    all.push(two((0, 174), (174, 174)));
-    all.push(two((0, 174), (173, 174)));
-    all.push(two((0, 174), (175, 174)));
-    all.push(two((0, 173), (174, 174)));
-    all.push(two((0, 174), (0, 173)));
-    all.push(two((174, 174), (0, 174)));
-    let largest = u32::MAX;
-    for pair in [
-        (largest, 174),
-        (largest - 173, 174),
-        (largest - 174, 174),
-        (0, largest),
-        (largest, largest),
-        (174, largest - 173),
-        (1, 174),
-        (0, 0),
-    ] {
-        all.push(Input::new(3, 0, 1).pair(pair.0, pair.1).values(&values[..174]).bytes());
-        all.push(two((0, 174), pair));
-    }
-    let many = |count: usize| {
-        let mut input = Input::new(3, 0, 1);
-        input.pairs = (0..count as u32).map(|j| (174 * j, 174)).collect();
-        input
-    };
-    for count in [24, 25, 26, 49] {
-        all.push(many(count).values(&[1.0; 10]).bytes());
-    }
-    for (code, rule) in [(3, 0), (4, 0), (0, 5), (0, 4), (3, 1)] {
-        let mut most = many(8190).values(&[1.0]);
-        most.code = code;
-        most.rule = rule;
-        all.push(most.bytes());
-    }
-    let mut uncounted = many(8190).bytes();
-    uncounted.truncate(65531);
-    all.push(uncounted);
-}
-
-// Inputs with two faults, for each pair of refusals that a program's input can meet.
-fn faulty_twice(all: &mut Vec<Vec<u8>>) {
-    let fault = |input: &mut Input, which: usize| match which {
-        0 => input.code = 4,
-        1 => input.rule = 5,
-        2 => input.rule = 1,
-        3 => input.pairs = (0..25).map(|j| (174 * j, 174)).collect(),
-        4 => input.pairs[0].1 = 173,
-        5 => input.pairs[1].0 = 100,
-        _ => input.values.truncate(347),
-    };
-    for first in 0..7 {
-        for second in first..7 {
-            let mut input = Input::new(3, 0, 1).pair(0, 174).pair(174, 174).values(&[1.0; 348]);
-            fault(&mut input, first);
-            fault(&mut input, second);
-            all.push(input.bytes());
-        }
-    }
-}
-
-// As many values as fit 65,536 bytes, 24 frames among them; and one byte, and one value, more.
-fn longest_inputs(codes: &Codes, random: &mut Random, all: &mut Vec<Vec<u8>>) {
-    let mut input = Input::new(1, 1, 3);
-    for _ in 0..24 {
-        input = input.frame(&noisy(codes, 1, 0.6, random));
-    }
-    let left = (65536 - input.bytes().len()) / 4;
-    input = input.values(&vec![1.0; left]);
-    let mut s = input.bytes();
-    all.push(s.clone());
-    s.push(0);
-    all.push(s);
-}
 
 // Frames of each code under each rule, with gaps between them, at several noises and limits.
 fn decoded_inputs(codes: &Codes, random: &mut Random, all: &mut Vec<Vec<u8>>) {
@@ -532,11 +169,6 @@ fn carried_inputs(codes: &Codes, random: &mut Random, all: &mut Vec<Vec<u8>>) {
     }
 }
 
-// The word as a frame with no noise.
-fn exact(word: &[u8]) -> Vec<f32> {
-    word.iter().map(|&bit| if bit == 0 { 4.0 } else { -4.0 }).collect()
-}
-
 // A frame of NaN alone; frames with one NaN, at the first place, the last and one between, beside clean neighbours; NaN between the frames alone.
 fn nan_inputs(codes: &Codes, random: &mut Random, all: &mut Vec<Vec<u8>>) {
     for code in 0..4 {
@@ -629,13 +261,5 @@ fn main() {
     nan_inputs(&codes, random, &mut all);
     checksum_inputs(&codes, random, &mut all);
     kept_inputs(&codes, random, &mut all);
-    let mut stdin = vec![];
-    let mut stdout = String::new();
-    for s in &all {
-        stdin.extend((s.len() as u32).to_le_bytes());
-        stdin.extend(s);
-        stdout += &listing(&codes, s);
-    }
-    fs::write("crates/listing_replay/stdin", stdin).unwrap();
-    fs::write("crates/listing_replay/stdout", stdout).unwrap();
+    store("crates/listing_replay", &all, |s| listing(&codes, s));
 }

@@ -1,67 +1,78 @@
 -- `listing_replay::list_one` meets its contract. Each part lies within its array. Assumes nothing.
+use mathlib.Core.Path.{sym, subst}
+use Prim.Native.Nat.{_≤_}
 use native.Mathlib.Omega.{arith}
-use mathlib.Core.Path.{sym}
-use mathlib.Core.List.{_++_}
-use lib.ListN.{drop, length-append}
-use lib.Seq.{length-take-le, length-front}
+use lib.ListN.{length}
+use lib.Seq.{length-take-le}
+use Rattle.stored_inputs.specs.Stored.{Held}
+use Rattle.stored_inputs.specs.declared.Stored.{Stored}
 use borrow.Author.Needs.{needs}
 use Rattle.listing_replay.proofs.list_one.Statement.{statement}
 use Rattle.listing_replay.proofs.list_one.Tie as tie
 
+-- src/main.rt:15:21
+-- the bytes read lie within the room
+held : (t : tie.After-n) → let read = t .before .before .before .read-next in t .n .given .0 .0 ≤ length (read .last .0)
+held t = let read = t .before .before .before .read-next in subst (λ (r : Stored). Held r (length (read .last .0))) (t .n .given .1) (read .ensures)
+
 input-room-requires : tie.Need-input-room-requires
 input-room-requires c κs = search needs
 
+-- src/main.rt:16:53
+slice-aggregate-read-next : tie.Need-slice-aggregate-read-next
+slice-aggregate-read-next c = search needs
+
+-- src/main.rt:16:28
+read-next-requires : tie.Need-read-next-requires
+read-next-requires c κs = search needs
+
+-- src/main.rt:16:23
+enum-known-n : tie.Need-enum-known-n
+enum-known-n c = search needs
+
+-- src/main.rt:17:9
+enum-told : tie.Need-enum-told
+enum-told c = search needs
+
+-- src/main.rt:17:9
 returns : tie.Need-returns
 returns c = search needs
 
-array-borrow-prefix-input : tie.Need-array-borrow-prefix-input
-array-borrow-prefix-input c = search needs
-
-slice-aggregate-read-full : tie.Need-slice-aggregate-read-full
-slice-aggregate-read-full c =
-    sym (length-take-le (c .before .before .before .args .n) (c .before .before .input-room .result) (omega arith))
-
-read-full-requires : tie.Need-read-full-requires
-read-full-requires c κs = search needs
-
+-- src/main.rt:19:19
 buffer-requires : tie.Need-buffer-requires
 buffer-requires c κs = search needs
 
+-- src/main.rt:20:27
 array-share-prefix-input : tie.Need-array-share-prefix-input
-array-share-prefix-input c =
-    let n = c .before .before .before .before .before .before .args .n in
-    let room = c .before .before .before .before .before .input-room .result in
-    let got = c .before .before .read-full .result in
-    let front = c .before .before .read-full .last .1 .0 in
-    let size = length-front room front n (c .before .before .read-full .kept .1 .0) in
-    omega (arith, length-append front (drop n room))
+array-share-prefix-input c = held (c .before .before)
 
+-- src/main.rt:20:27
 slice-aggregate-list : tie.Need-slice-aggregate-list
-slice-aggregate-list c =
-    let n = c .before .before .before .before .before .before .before .args .n in
-    let room = c .before .before .before .before .before .before .input-room .result in
-    let got = c .before .before .before .read-full .result in
-    let front = c .before .before .before .read-full .last .1 .0 in
-    let size = length-front room front n (c .before .before .before .read-full .kept .1 .0) in
-    sym (length-take-le got (front ++ drop n room) (omega (arith, length-append front (drop n room))))
+slice-aggregate-list c = let t = c .before .before .before in sym (length-take-le (t .n .given .0 .0) (t .before .before .before .read-next .last .0) (held t))
 
+-- src/main.rt:20:40
 slice-aggregate-list-2 : tie.Need-slice-aggregate-list-2
 slice-aggregate-list-2 c = search needs
 
+-- src/main.rt:20:9
 list-requires : tie.Need-list-requires
 list-requires c κs = search needs
 
+-- src/main.rt:21:34
 array-share-prefix-out : tie.Need-array-share-prefix-out
 array-share-prefix-out c = search needs
 
+-- src/main.rt:21:34
 slice-aggregate-write-all : tie.Need-slice-aggregate-write-all
 slice-aggregate-write-all c =
-    let shown = c .before .before .list .last .1 .0 in
-    sym (length-take-le (c .before .before .list .result) shown (omega arith))
+    let shown = c .before .before .list in
+    sym (length-take-le (shown .result) (shown .last .1 .0) (omega arith))
 
+-- src/main.rt:21:5
 write-all-requires : tie.Need-write-all-requires
 write-all-requires c κs = search needs
 
+-- src/main.rt:14:1
 returns-2 : tie.Need-returns-2
 returns-2 c = search needs
 
@@ -70,10 +81,11 @@ list-one-spec =
     tie.close
     (tie.spec
     input-room-requires
+    slice-aggregate-read-next
+    read-next-requires
+    enum-known-n
+    enum-told
     returns
-    array-borrow-prefix-input
-    slice-aggregate-read-full
-    read-full-requires
     buffer-requires
     array-share-prefix-input
     slice-aggregate-list
