@@ -20,7 +20,7 @@ use Rattle.text.specs.Text.{leading, decimal, hexDigit, field, refusalLine}
 use Rattle.batch_input.specs.Input.{u32sFrom, floatOf, pairNumbers, valuesOf, malformed}
 use Rattle.reason.specs.declared.Reason.the-variants.{Nan, Check, Checksum}
 use Rattle.reason.specs.Reasons.{checksOf, firstNan, checksumOr, reasonFor, reasonUnder}
-use Rattle.why.specs.Lines.{nanLine, entry, entries, checkLine, checksumLine, cleanLine, reasonLine}
+use Rattle.why.specs.Lines.{nanLine, pairText, entry, entries, checkLine, checksumLine, cleanLine, reasonLine}
 use Rattle.why.specs.Why.{frameLine, whyOf}
 
 -- ---- lines
@@ -34,7 +34,7 @@ nan-line = refl
 check-line : reasonLine checks (replicate 174 1) (Check 0) ≡
     99 ∷ 104 ∷ 101 ∷ 99 ∷ 107 ∷ 32 ∷ 48 ∷ 32 ∷ 51 ∷ 58 ∷ 49 ∷ 32 ∷ 51 ∷ 48 ∷ 58 ∷ 49 ∷ 32 ∷ 53 ∷ 56 ∷ 58 ∷ 49 ∷
     32 ∷ 57 ∷ 48 ∷ 58 ∷ 49 ∷ 32 ∷ 57 ∷ 49 ∷ 58 ∷ 49 ∷ 32 ∷ 57 ∷ 53 ∷ 58 ∷ 49 ∷ 32 ∷ 49 ∷ 53 ∷ 50 ∷ 58 ∷ 49 ∷ 10 ∷ []
-unfolding checkLine entries entry field decimal leading checks rowsOfSeven nm numRows
+unfolding checkLine entries entry pairText field decimal leading checks rowsOfSeven nm numRows
 check-line = refl
 
 -- `checksum 0000 2bf8`

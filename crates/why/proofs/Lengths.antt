@@ -10,15 +10,15 @@ use Rattle.text.specs.Text.{space, field}
 use Rattle.text.proofs.Lengths.{decimal-short, field-length}
 use Rattle.reason.specs.declared.Reason.{Reason}
 use Rattle.reason.specs.declared.Reason.the-variants.{Nan, Check, Checksum, Clean}
-use Rattle.why.specs.Lines.{nanWord, checkWord, colon, nanLine, entry, entries, checkLine, checksumLine, cleanLine, reasonLine}
+use Rattle.why.specs.Lines.{nanWord, checkWord, colon, nanLine, pairText, entry, entries, checkLine, checksumLine, cleanLine, reasonLine}
 
 pub nan-length : (p : ℕ) → length (nanLine p) ≡ length (field nanWord p) + 1
 unfolding nanLine
 nan-length p = simp length-append
 
-pub entry-length : (p bit : ℕ) → length (entry p bit) ≡ length (field space p) + length (field colon bit)
-unfolding entry
-entry-length p bit = simp length-append
+pub pair-length : (p bit : ℕ) → length (pairText p bit) ≡ length (field space p) + length (field colon bit)
+unfolding pairText
+pair-length p bit = simp length-append
 
 pub check-length : (checks : Checks) (word : Word) (c : ℕ) → length (checkLine checks word c) ≡ length (field checkWord c) + (length (entries (getD checks c []) word) + 1)
 unfolding checkLine
@@ -28,13 +28,17 @@ pub checksum-length : (carried computed : ℕ) → length (checksumLine carried 
 unfolding checksumLine
 checksum-length carried computed = refl
 
+pair-short : (p bit : ℕ) → length (pairText p bit) ≤ 12
+pair-short p bit = omega (arith, pair-length p bit, field-length space p, field-length colon bit, decimal-short p, decimal-short bit)
+
+entry-short : (word : Word) (p : ℕ) → length (entry word p) ≤ 12
+unfolding entry
+entry-short word p = pair-short _ _
+
 entries-short : (ps : List ℕ) (word : Word) → length (entries ps word) ≤ 12 * length ps
 unfolding entries
 entries-short [] word = lit≤ tt
-entries-short (p ∷ ps) word =
-    let bit = getD word p 0 in
-    rw (length-append (entry p bit) (entries ps word))
-    (omega (arith, entry-length p bit, field-length space p, field-length colon bit, decimal-short p, decimal-short bit, entries-short ps word))
+entries-short (p ∷ ps) word = simp length-append (omega (arith, entry-short word p, entries-short ps word))
 
 abbrev pub Short : Checks → Type 0
 Short checks = (c : ℕ) → length (getD checks c []) ≤ 11

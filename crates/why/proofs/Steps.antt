@@ -10,11 +10,11 @@ use lib.Seq.{drop-cons, drop-length}
 use Rattle.tanner.specs.Checks.{Word}
 use Rattle.tanner.specs.Flat.{rowsFrom, rowsOf}
 use Rattle.tanner.proofs.Steps.{rows-more}
-use Rattle.why.specs.Lines.{entry, entries}
+use Rattle.why.specs.Lines.{pairText, entry, entries}
 
 module _ (ps : List ℕ) (word : Word) (i : ℕ) where
-  pub entries-more : i < length ps → entries (drop i ps) word ≡ entry (getD ps i 0) (getD word (getD ps i 0) 0) ++ entries (drop (i + 1) ps) word
-  unfolding entries
+  pub entries-more : i < length ps → entries (drop i ps) word ≡ pairText (getD ps i 0) (getD word (getD ps i 0) 0) ++ entries (drop (i + 1) ps) word
+  unfolding entries entry
   entries-more h = rw (add-one i, drop-cons ps i 0 h)
 
   pub entries-none : length ps ≤ i → i ≤ length ps → entries (drop i ps) word ≡ []

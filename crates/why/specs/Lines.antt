@@ -30,14 +30,18 @@ colon = 58 ∷ []
 unfoldable pub nanLine : ℕ → List ℕ
 nanLine p = field nanWord p ++ newline
 
--- a position "with the chosen word's bit, .., as `3:0`", and the space before it
-unfoldable pub entry : ℕ → ℕ → List ℕ
-entry p bit = field space p ++ field colon bit
+-- a position and a bit, "as `3:0`", with the space before them
+unfoldable pub pairText : ℕ → ℕ → List ℕ
+pairText p bit = field space p ++ field colon bit
 
--- "each of its positions with the chosen word's bit, in row order, .. positions counted from 0"
+-- a position "with the chosen word's bit, .. positions counted from 0"
+unfoldable pub entry : Word → ℕ → List ℕ
+entry word p = pairText p (getD word p 0)
+
+-- "each of its positions .., in row order"
 unfoldable pub entries : List ℕ → Word → List ℕ
 entries [] word = []
-entries (p ∷ ps) word = entry p (getD word p 0) ++ entries ps word
+entries (p ∷ ps) word = entry word p ++ entries ps word
 
 -- "`check`, the lowest unsatisfied check's number, then each of its positions"
 unfoldable pub checkLine : Checks → Word → ℕ → List ℕ

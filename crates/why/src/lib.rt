@@ -26,7 +26,7 @@ ghost use Rattle.batch.specs.Pairs.{pairsOf, AllWithin};
 ghost use Rattle.batch.specs.Calls.{lent, batch};
 ghost use Rattle.batch_input.specs.Input.{codeOf, ruleOf, limitOf, scaleOf, pairNumbers, valuesOf, malformed};
 ghost use Rattle.reason.specs.Reasons.{checksOf};
-ghost use Rattle.why.specs.Lines.{nanLine, entry, entries, checkLine, checksumLine, reasonLine, Named};
+ghost use Rattle.why.specs.Lines.{nanLine, pairText, entries, checkLine, checksumLine, reasonLine, Named};
 ghost use Rattle.why.specs.Why.{askedRefusals, frameAt, frameLine, whyOf, askedLine};
 
 // ---- lines
@@ -40,9 +40,9 @@ fn nan_line(out: &mut [u8], p: u16) -> usize
 }
 
 // A position and its bit.
-fn put_entry(out: &mut [u8], at: usize, p: u16, bit: u8) -> usize
-    requires { ⌜ at + length (entry p bit) ≤ length (now out) ⌝ }
-    ensures { λ r. ⌜ Written (now (out .entry)) at (entry p bit) (now (out .exit)) r ⌝ }
+fn put_pair(out: &mut [u8], at: usize, p: u16, bit: u8) -> usize
+    requires { ⌜ at + length (pairText p bit) ≤ length (now out) ⌝ }
+    ensures { λ r. ⌜ Written (now (out .entry)) at (pairText p bit) (now (out .exit)) r ⌝ }
 {
     let next = text::put_field(out, at, b" ", p);
     text::put_field(out, next, b":", bit as u16)
@@ -58,7 +58,7 @@ fn put_entries(out: &mut [u8], at: usize, positions: &[u16], word: &[u8]) -> usi
     while i < positions.len() {
         let p = positions[i];
         let k = p as usize;
-        next = put_entry(out, next, p, word[k]);
+        next = put_pair(out, next, p, word[k]);
         i += 1;
     }
     next

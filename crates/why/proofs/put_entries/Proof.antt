@@ -7,7 +7,7 @@ use native.Mathlib.Omega.{arith}
 use lib.ListN.{length, getD, drop, length-append}
 use Rattle.tanner.specs.Flat.{Below}
 use Rattle.text.proofs.Put.{Left, left-all, left-less, left-none}
-use Rattle.why.specs.Lines.{entry, entries}
+use Rattle.why.specs.Lines.{pairText, entries}
 use Rattle.why.proofs.Steps.{entries-more, entries-none}
 use borrow.Author.Needs.{needs}
 use Rattle.why.proofs.put_entries.Statement.{statement}
@@ -32,7 +32,7 @@ word l = start l .args .word .now
 
 -- in a turn: the entry that comes next, and those after it
 more : (t : tie.In-loop Inv-loop μ-loop) → let l = t .before in let i = l .loop .i in let p = getD (positions l) i 0 in
-    entries (drop i (positions l)) (word l) ≡ entry p (getD (word l) p 0) ++ entries (drop (i + 1) (positions l)) (word l)
+    entries (drop i (positions l)) (word l) ≡ pairText p (getD (word l) p 0) ++ entries (drop (i + 1) (positions l)) (word l)
 more t = entries-more (positions (t .before)) (word (t .before)) (t .before .loop .i) (t .loop-test .taken)
 
 -- ---- the needs
@@ -49,12 +49,12 @@ shared-slice-read-p c = search needs
 cast-k : tie.Need-cast-k Inv-loop μ-loop
 cast-k c = omega (arith, c .shared-slice-known3 .given (c .before .before .loop .i))
 
-shared-slice-read-put-entry : tie.Need-shared-slice-read-put-entry Inv-loop μ-loop
+shared-slice-read-put-pair : tie.Need-shared-slice-read-put-pair Inv-loop μ-loop
 unfolding Below
-shared-slice-read-put-entry c = let t = c .before .before .before in start (t .before) .pre .0 (t .before .loop .i) (t .loop-test .taken)
+shared-slice-read-put-pair c = let t = c .before .before .before in start (t .before) .pre .0 (t .before .loop .i) (t .loop-test .taken)
 
-put-entry-requires : tie.Need-put-entry-requires Inv-loop μ-loop
-put-entry-requires c κs =
+put-pair-requires : tie.Need-put-pair-requires Inv-loop μ-loop
+put-pair-requires c κs =
     let t = c .before .before .before in
     let now = t .before .loop .inv .1 in
     let left = simp length-append at (ap length (more t)) in
@@ -74,7 +74,7 @@ loop-again c =
     let a = start (t .before) .args in
     let room = start (t .before) .pre .1 in (
       search needs,
-      left-less (a .out .now) (a .at) (entries (a .positions .now) (a .word .now)) now.out now.next _ _ _ _ room (rw (more t) at (now .inv .1)) (done .put-entry .ensures),
+      left-less (a .out .now) (a .at) (entries (a .positions .now) (a .word .now)) now.out now.next _ _ _ _ room (rw (more t) at (now .inv .1)) (done .put-pair .ensures),
     )
 
 same-length : tie.Need-same-length Inv-loop μ-loop
@@ -97,8 +97,8 @@ put-entries-spec =
     mul-p
     shared-slice-read-p
     cast-k
-    shared-slice-read-put-entry
-    put-entry-requires
+    shared-slice-read-put-pair
+    put-pair-requires
     add-i
     loop-less
     loop-again

@@ -1,38 +1,38 @@
--- `why::put_entry` meets its contract. A space and the position, a colon and the bit. Assumes nothing.
+-- `why::put_pair` meets its contract. A space and the position, a colon and the bit. Assumes nothing.
 use native.Mathlib.Omega.{arith}
 use Rattle.text.proofs.Put.{then}
-use Rattle.why.specs.Lines.{entry}
-use Rattle.why.proofs.Lengths.{entry-length}
+use Rattle.why.specs.Lines.{pairText}
+use Rattle.why.proofs.Lengths.{pair-length}
 use borrow.Author.Needs.{needs}
-use Rattle.why.proofs.put_entry.Statement.{statement}
-use Rattle.why.proofs.put_entry.Tie as tie
+use Rattle.why.proofs.put_pair.Statement.{statement}
+use Rattle.why.proofs.put_pair.Tie as tie
 
 slice-aggregate-put-field : tie.Need-slice-aggregate-put-field
 slice-aggregate-put-field c = search needs
 
 put-field-requires : tie.Need-put-field-requires
-put-field-requires c κs = let a = c .before .before .before .args in omega (arith, entry-length (a .p) (a .bit))
+put-field-requires c κs = let a = c .before .before .before .args in omega (arith, pair-length (a .p) (a .bit))
 
 slice-aggregate-put-field-2 : tie.Need-slice-aggregate-put-field-2
 slice-aggregate-put-field-2 c = search needs
 
 put-field-requires-2 : tie.Need-put-field-requires-2
-put-field-requires-2 c κs = let a = c .before .before .before .before .before .before .before .before .args in omega (arith, entry-length (a .p) (a .bit))
+put-field-requires-2 c κs = let a = c .before .before .before .before .before .before .before .before .args in omega (arith, pair-length (a .p) (a .bit))
 
 same-length : tie.Need-same-length
 same-length c = search needs
 
 returns : tie.Need-returns
-unfolding entry
+unfolding pairText
 returns c =
     let done = c .before .before in
     let first = done .before .before .before .before .before in
     let a = first .before .before .before .before .args in
-    let room = entry-length (a .p) (a .bit) in
+    let room = pair-length (a .p) (a .bit) in
     then (first .put-field .ensures) (omega arith) (done .put-field2 .ensures)
 
-pub put-entry-spec : {M : Type 1} → statement M
-put-entry-spec =
+pub put-pair-spec : {M : Type 1} → statement M
+put-pair-spec =
     tie.close
     (tie.spec
     slice-aggregate-put-field
