@@ -22,8 +22,8 @@
  * refused. The functions whose names end in _unguarded compute under whatever word is set; call one only where that
  * is known to be the default.
  *
- * Codes. 0 is N512R12 (N 512, K 256), 1 is N576R23 (N 576, K 384), 2 is N512R34 (N 512, K 384); in a batch and for
- * erasures 3 is (174,91) (N 174, K 91), in a batch with rules 0, 3 and 4 only.
+ * Codes. 0 is N512R12 (N 512, K 256), 1 is N576R23 (N 576, K 384), 2 is N512R34 (N 512, K 384); in a batch, for a
+ * frame's reason and for erasures 3 is (174,91) (N 174, K 91), which is decoded by rules 0, 3 and 4 only.
  * Rules. 0 is sum-product, 1 min-sum, 2 min-sum scaled by `scale`, 3 the house default: min-sum scaled by 0.75 on
  * codes 0 to 2, and rule 4 on code 3. Rule 4, for code 3 alone, is sum-product with the right sign: rule 0 there is
  * the original's, which pulls the wrong way at 24 of its 83 checks and gains nothing over hard decisions.
@@ -84,6 +84,7 @@ enum desklink_refusal {
     DESKLINK_ERASURE_BYTE = -16,    /* a byte of a word with erasures is above 2 */
     DESKLINK_BYTE_OUT_OF_RANGE = -17, /* a soft byte is -128 */
     DESKLINK_NOT_EIGHTHS = -18,     /* a value is no soft byte's */
+    DESKLINK_NO_SUCH_PLACE = -19,   /* a program is asked about a frame past the last; no call here answers it */
     DESKLINK_GROUP_SIZES = -20      /* a group's size is 0, or the sizes do not add up to the number of pairs */
 };
 
@@ -277,6 +278,32 @@ DESKLINK_GUARDED int32_t desklink_frame_clean(uint32_t code, const float *values
 {
     uint32_t callers = desklink_default_floats();
     int32_t answer = desklink_frame_clean_unguarded(code, values, values_len, count, bits, bits_len);
+    desklink_callers_floats(callers);
+    return answer;
+}
+
+/* Why a frame is open: what desklink_frame_reason answers. */
+enum desklink_reason {
+    DESKLINK_REASON_CLEAN = 0,   /* it is not: the frame is clean */
+    DESKLINK_REASON_NAN = 1,     /* a value is NaN; part is the lowest position of one, from 0 */
+    DESKLINK_REASON_CHECK = 2,   /* the chosen word leaves a check unsatisfied; part is the lowest such check, from 0 */
+    DESKLINK_REASON_CHECKSUM = 3 /* the checksum of a (174,91) word is wrong; part is the one that it carries, computed
+                                    the one of its payload */
+};
+
+/* Decodes a frame, and answers the first of the reasons NaN, check and checksum that applies, or that it is clean.
+ * values: its N values; word: N bytes, written: the word that the decode chooses, of which the first K bytes are the
+ * message. part and computed are written, 0 where the reason has none; neither pointer is null. */
+int32_t desklink_frame_reason_unguarded(uint32_t code, uint32_t rule, float scale, uint16_t limit, const float *values,
+                                        size_t values_len, uint8_t *word, size_t word_len, uint16_t *part,
+                                        uint16_t *computed, float *work, size_t work_len);
+DESKLINK_GUARDED int32_t desklink_frame_reason(uint32_t code, uint32_t rule, float scale, uint16_t limit,
+                                               const float *values, size_t values_len, uint8_t *word, size_t word_len,
+                                               uint16_t *part, uint16_t *computed, float *work, size_t work_len)
+{
+    uint32_t callers = desklink_default_floats();
+    int32_t answer = desklink_frame_reason_unguarded(code, rule, scale, limit, values, values_len, word, word_len,
+                                                     part, computed, work, work_len);
     desklink_callers_floats(callers);
     return answer;
 }

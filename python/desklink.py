@@ -113,6 +113,29 @@ class Frame(typing.NamedTuple):
     """Whether the frame can be trusted: its count is 0, none of its values is NaN and, for (174,91), its checksum is right."""
 
 
+class Reason(enum.IntEnum):
+    """Why a frame is open: the first of these that applies, from NAN on, or that it is clean."""
+
+    CLEAN = 0
+    NAN = 1
+    CHECK = 2
+    CHECKSUM = 3
+
+
+class Explained(typing.NamedTuple):
+    """Why a frame is open, and the word that its decode chose."""
+
+    reason: Reason
+    position: typing.Optional[int]
+    """With NAN: the lowest position of a NaN, counted from 0."""
+    check: typing.Optional[int]
+    """With CHECK: the lowest check that the chosen word leaves unsatisfied, counted from 0."""
+    checksums: typing.Optional[typing.Tuple[int, int]]
+    """With CHECKSUM: the checksum that the word carries, and the one of its payload."""
+    word: bytes
+    """The N bits of the chosen word, one a byte; the first K of them are the message."""
+
+
 # ---- buffers, read and written where they lie
 
 
@@ -328,3 +351,21 @@ def decode_frames(code, frames, rule=Rule.DEFAULT, limit=20, scale=0.0):
     """Each of the frames, a buffer of N floats, as a Frame. Any number of them; each is read where it lies."""
     n = Code(code).n
     return [decode_batch(code, frame, [(0, n)], rule, limit, scale)[0] for frame in frames]
+
+
+def frame_reason(code, values, rule=Rule.DEFAULT, limit=20, scale=0.0):
+    """Why the frame of these N values is open, or that it is clean, as an Explained."""
+    word = (ctypes.c_uint8 * (Code(code).n if 0 <= code <= 3 else 0))()
+    part, computed = ctypes.c_uint16(), ctypes.c_uint16()
+    work = (ctypes.c_float * WORK)()
+    head = ctypes.c_uint32(code), ctypes.c_uint32(rule), ctypes.c_float(scale), ctypes.c_uint16(limit)
+    told = ctypes.byref(part), ctypes.byref(computed)
+    with _floats(values) as lent:
+        reason = Reason(_answer(_library.desklink_frame_reason(*head, lent.pointer, lent.length, *_slice(word), *told, *_slice(work))))
+    return Explained(
+        reason,
+        part.value if reason == Reason.NAN else None,
+        part.value if reason == Reason.CHECK else None,
+        (part.value, computed.value) if reason == Reason.CHECKSUM else None,
+        bytes(word),
+    )

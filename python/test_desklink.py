@@ -5,7 +5,7 @@ import random
 import unittest
 
 import desklink
-from desklink import Code, Refused, Rule
+from desklink import Code, Reason, Refused, Rule
 
 CODES = list(Code)
 
@@ -64,6 +64,10 @@ class Decoding(unittest.TestCase):
             (11, lambda: desklink.decode_batch(3, values * 2, [(0, 174), (173, 174)])),
             (12, lambda: desklink.decode_batch(3, values, [(1, 174)])),
             (20, lambda: desklink.decode_batch(3, values, [(0, 174)], groups=[2])),
+            (1, lambda: desklink.frame_reason(4, values)),
+            (2, lambda: desklink.frame_reason(3, values, rule=5)),
+            (3, lambda: desklink.frame_reason(3, values, rule=1)),
+            (4, lambda: desklink.frame_reason(0, values)),
             (4, lambda: desklink.encode(0, bytes(255))),
             (5, lambda: desklink.count(1, bytes(575))),
             (16, lambda: desklink.fill_erasures(3, bytes([3]) + bytes(173))),
@@ -81,6 +85,28 @@ class Decoding(unittest.TestCase):
         good, dead = values_of(word), array.array("f", [float("nan")] * 174)
         frames = desklink.decode_frames(Code.FT8, [good, dead])
         self.assertEqual([(frame.count, frame.clean) for frame in frames], [(0, True), (0, False)])
+
+
+    def test_reasons(self):
+        for code in CODES:
+            word, _ = word_and_message(code, 5)
+            values = values_of(word)
+            values[code.n - 1] = -values[code.n - 1]
+            told = desklink.frame_reason(code, values, limit=0)
+            spoilt = word[:-1] + bytes([1 - word[-1]])
+            self.assertEqual((told.reason, told.check, told.word), (Reason.CHECK, desklink.count(code, spoilt)[1], spoilt))
+            values[7] = values[9] = float("nan")
+            told = desklink.frame_reason(code, values)
+            self.assertEqual((told.reason, told.position, told.check), (Reason.NAN, 7, None))
+        block = desklink.ft8_add_crc(bytes(range(10)))
+        good = desklink.unpack(desklink.ldpc_encode(block), 174)
+        self.assertEqual(desklink.frame_reason(Code.FT8, values_of(good))[:4], (Reason.CLEAN, None, None, None))
+        carried = desklink.ft8_extract_crc(block)
+        wrong = desklink.unpack(desklink.ldpc_encode(block[:11] + bytes([block[11] ^ 0x20])), 174)
+        told = desklink.frame_reason(Code.FT8, values_of(wrong))
+        self.assertEqual((told.reason, told.checksums, told.word), (Reason.CHECKSUM, (carried ^ 1, carried), wrong))
+        word, _ = word_and_message(Code.N512R34, 6)
+        self.assertEqual(desklink.frame_reason(Code.N512R34, values_of(word)).reason, Reason.CLEAN)
 
 
 class Buffers(unittest.TestCase):

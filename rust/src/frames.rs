@@ -1,5 +1,6 @@
 //! Frames one by one, with all that is told of each.
-use crate::{slices, with_work, Code, DecodeRule, Refusal};
+use crate::slices::{self, Reason};
+use crate::{with_work, Code, DecodeRule, Refusal};
 
 /// What a decode tells of one frame.
 #[derive(Debug, Clone, PartialEq, Eq)]
@@ -46,4 +47,31 @@ fn decode_frame(code: Code, rule: DecodeRule, limit: u16, values: &[f32]) -> Res
     with_work(|work| slices::decode_batch(code.number(), number, limit, scale, values, &pairs, out, work))?;
     let clean = slices::frame_clean(code.number(), values, count, &bits)?;
     Ok(Frame { bits, count, rounds, first_check: slices::check(first), clean })
+}
+
+/// Why a frame is open, and the word that its decode chose.
+#[derive(Debug, Clone, PartialEq, Eq)]
+pub struct Explained {
+    /// The first reason that applies, or that the frame is clean.
+    pub reason: Reason,
+    /// The N bits of the chosen word, one a byte; the first K of them are the message.
+    pub word: Vec<u8>,
+}
+
+/// Decodes a frame of N values in at most `limit` rounds, and says why it is open, or that it is clean. Refused where it has another length, or the rule is
+/// not one of the code's.
+///
+/// ```
+/// use desklink::{frame_reason, Code, DecodeRule, Reason, Refusal};
+/// let mut values = [4.0; 174];
+/// assert_eq!(frame_reason(Code::Ft8, DecodeRule::default(), 20, &values)?.reason, Reason::Clean);
+/// values[173] = f32::NAN;
+/// assert_eq!(frame_reason(Code::Ft8, DecodeRule::default(), 20, &values)?.reason, Reason::Nan(173));
+/// # Ok::<(), Refusal>(())
+/// ```
+pub fn frame_reason(code: Code, rule: DecodeRule, limit: u16, values: &[f32]) -> Result<Explained, Refusal> {
+    let (number, scale) = rule.number_and_scale();
+    let mut word = vec![0; code.n()];
+    let reason = with_work(|work| slices::frame_reason(code.number(), number, scale, limit, values, &mut word, work))?;
+    Ok(Explained { reason, word })
 }

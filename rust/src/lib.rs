@@ -23,9 +23,10 @@ pub mod slices;
 mod staircase;
 
 pub use batch::{Batch, Code};
-pub use frames::{decode_frames, Frame};
+pub use frames::{decode_frames, frame_reason, Explained, Frame};
 pub use moves::Move;
 pub use refusal::Refusal;
+pub use slices::Reason;
 pub use staircase::{DecodeRule, Ldpc, LdpcCode};
 
 /// Bits of a (174,91) codeword.

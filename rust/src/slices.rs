@@ -133,6 +133,20 @@ mod ffi {
             work_len: usize,
         ) -> i32;
         pub fn desklink_frame_clean_unguarded(code: u32, values: *const f32, values_len: usize, count: u16, bits: *const u8, bits_len: usize) -> i32;
+        pub fn desklink_frame_reason_unguarded(
+            code: u32,
+            rule: u32,
+            scale: f32,
+            limit: u16,
+            values: *const f32,
+            values_len: usize,
+            word: *mut u8,
+            word_len: usize,
+            part: *mut u16,
+            computed: *mut u16,
+            work: *mut f32,
+            work_len: usize,
+        ) -> i32;
         pub fn desklink_fill_erasures(code: u32, word: *mut u8, word_len: usize, places: *mut u16, places_len: usize) -> i32;
         pub fn desklink_values_of_bytes_unguarded(bytes: *const i8, bytes_len: usize, positive_is_one: u32, values: *mut f32, values_len: usize) -> i32;
         pub fn desklink_bytes_of_values_unguarded(values: *const f32, values_len: usize, positive_is_one: u32, bytes: *mut i8, bytes_len: usize) -> i32;
@@ -403,6 +417,58 @@ pub fn frame_clean(code: u32, values: &[f32], count: u16, bits: &[u8]) -> Result
     let _floats = DefaultFloats::set();
     let said = unsafe { ffi::desklink_frame_clean_unguarded(code, values.as_ptr(), values.len(), count, bits.as_ptr(), bits.len()) };
     answer(said).map(|clean| clean == 1)
+}
+
+/// Why a frame is open: the first of these that applies.
+#[derive(Debug, Clone, Copy, PartialEq, Eq)]
+pub enum Reason {
+    /// A value is NaN: the lowest position of one, counted from 0.
+    Nan(u16),
+    /// The chosen word leaves a check unsatisfied: the lowest such check, counted from 0.
+    Check(u16),
+    /// The checksum of a (174,91) word is wrong: the one that it carries, and the one of its payload.
+    Checksum { carried: u16, computed: u16 },
+    /// It is not open: the frame is clean.
+    Clean,
+}
+
+/// Decodes a frame of N values by the rule with that number, and says why it is open, or that it is clean. The word that the decode chooses goes to `word`,
+/// which has N places.
+///
+/// ```
+/// use desklink::slices::{frame_reason, Reason, WORK};
+/// let (mut word, mut work) = ([9; 174], [0.0; WORK]);
+/// assert_eq!(frame_reason(3, 3, 0.0, 20, &[1.0; 174], &mut word, &mut work), Ok(Reason::Clean));
+/// let mut values = [1.0; 174];
+/// values[100] = f32::NAN;
+/// assert_eq!(frame_reason(3, 3, 0.0, 20, &values, &mut word, &mut work), Ok(Reason::Nan(100)));
+/// assert_eq!(frame_reason(3, 3, 0.0, 0, &[-1.0; 174], &mut word, &mut work), Ok(Reason::Check(0)));
+/// ```
+pub fn frame_reason(code: u32, rule: u32, scale: f32, limit: u16, values: &[f32], word: &mut [u8], work: &mut [f32]) -> Result<Reason, Refusal> {
+    let _floats = DefaultFloats::set();
+    let (mut part, mut computed) = (0, 0);
+    let kind = answer(unsafe {
+        ffi::desklink_frame_reason_unguarded(
+            code,
+            rule,
+            scale,
+            limit,
+            values.as_ptr(),
+            values.len(),
+            word.as_mut_ptr(),
+            word.len(),
+            &mut part,
+            &mut computed,
+            work.as_mut_ptr(),
+            work.len(),
+        )
+    })?;
+    Ok(match kind {
+        0 => Reason::Clean,
+        1 => Reason::Nan(part),
+        2 => Reason::Check(part),
+        _ => Reason::Checksum { carried: part, computed },
+    })
 }
 
 /// Sets the unknown bits (2) of a recorded word of N bytes that the checks of code 0 to 3 decide, one after another, and lists their positions at

@@ -109,6 +109,25 @@ fn single_decodes() {
 }
 
 #[test]
+fn reasons() {
+    let random = &mut Random(0x4D5A);
+    for exponent in [-45, -41, -38, -20, 0, 20, 38] {
+        let mut work = vec![0.0; slices::WORK];
+        for (code, &(n, _)) in SIZES.iter().enumerate() {
+            let llr = values(random, n, exponent);
+            let mut explain = |rule| {
+                let mut word = vec![9; n];
+                (slices::frame_reason(code as u32, rule, 0.5, 12, &llr, &mut word, &mut work), word)
+            };
+            for rule in [0, 3] {
+                let expected = explain(rule);
+                words().into_iter().for_each(|word| assert_eq!(under(word, || explain(rule)), expected));
+            }
+        }
+    }
+}
+
+#[test]
 fn soft_bytes() {
     let bytes: Vec<i8> = (-127..=127).collect();
     let convert = || {

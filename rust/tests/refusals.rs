@@ -160,6 +160,37 @@ fn staircase_decode() {
     }
 }
 
+#[test]
+fn reasons() {
+    let random = &mut Random(6);
+    for code in [0, 1, 2, 3, 4, 256, u32::MAX] {
+        let n = if code < 3 { N[code as usize] } else { 174 };
+        for rule in [0, 1, 2, 3, 4, 5, 256, u32::MAX] {
+            let not_of_code = if code == 3 { rule == 1 || rule == 2 } else { rule == 4 };
+            for values in [0, n - 1, n, n + 1] {
+                for places in [0, n - 1, n, n + 1] {
+                    for area in [0, 3069, 3070, 3071] {
+                        let llr: Vec<f32> = (0..values).map(|_| random.pattern()).collect();
+                        let (before, held) = (random.bytes(places), (0..area).map(|_| random.pattern()).collect::<Vec<f32>>());
+                        let (mut word, mut work) = (before.clone(), held.clone());
+                        let expected = first(&[
+                            (code > 3, Refusal::UnknownCode),
+                            (rule > 4, Refusal::UnknownRule),
+                            (not_of_code, Refusal::RuleNotOfCode),
+                            (values != n, Refusal::InputLength),
+                            (places != n, Refusal::OutputLength),
+                            (area < 3070, Refusal::WorkTooShort),
+                        ]);
+                        if expect(slices::frame_reason(code, rule, random.pattern(), 1, &llr, &mut word, &mut work), expected) {
+                            assert!(word == before && same_bits(&work, &held));
+                        }
+                    }
+                }
+            }
+        }
+    }
+}
+
 /// The number of the first faulty pair, and nothing where none is: 10, 11 and 12 in turn at each.
 fn pair_fault(n: usize, values: usize, pairs: &[[u32; 2]]) -> Option<Refusal> {
     let mut end = 0;

@@ -32,6 +32,18 @@ fn decoders() {
     });
 }
 
+#[test]
+fn reasons() {
+    for (code, n) in [(0, 512), (1, 576), (2, 512), (3, 174)] {
+        let random = &mut Random(code.into());
+        let values: Vec<f32> = (0..n).map(|_| random.normal() as f32).collect();
+        let (mut word, mut work) = (vec![0; n], vec![0.0; slices::WORK]);
+        on_small_stack(move || {
+            slices::frame_reason(code, 3, 0.0, 5, &values, &mut word, &mut work).unwrap();
+        });
+    }
+}
+
 /// With groups: the batch lies beneath that call.
 #[test]
 fn batch() {

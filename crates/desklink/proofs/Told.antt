@@ -9,9 +9,11 @@ use Rattle.tanner.specs.Checks.{Syndrome}
 use Rattle.belief.specs.Chosen.{Told}
 use Rattle.decoders.specs.Calls as decoders
 use Rattle.batch.specs.Calls as batch
+use Rattle.reason.specs.declared.Reason.{Reason}
+use Rattle.reason.specs.Calls as reason
 use Rattle.groups.specs.Groups as groups
-use Rattle.desklink.specs.Coded.{codedUnit, Lent, Counts, Decodes}
-use Rattle.desklink.specs.Calls.{DecodeCall, BatchCall, GroupsCall}
+use Rattle.desklink.specs.Coded.{codedUnit, Lent, Counts, Decodes, Explains}
+use Rattle.desklink.specs.Calls.{DecodeCall, BatchCall, GroupsCall, ReasonCall}
 
 -- z is what was stored, and n what is read back of it
 
@@ -32,3 +34,11 @@ batch-told b a coded read = record { says = read ∙ coded ∙ ap codedUnit (a .
 pub groups-told : (b : batch.Batch) (sizes : List ℕ) {answer : Outcome Unit} {left : batch.Lent} {z n : ℤ} → groups.Answered b sizes answer left
     → z ≡ codedUnit answer → n ≡ z → GroupsCall b sizes n left
 groups-told b sizes a coded read = record { says = read ∙ coded ∙ ap codedUnit (a .says); leaves = a .leaves }
+
+pub reason-told : (a : reason.Asked) {answer : Outcome Reason} {word : List ℕ} {work : List Float} {z n : ℤ} {part computed : Lent} → reason.Answered a answer word work
+    → Explains answer z part computed → n ≡ z → ReasonCall a n part computed word work
+reason-told a {answer} {word} {work} {z} {n} {part} {computed} r e read = record {
+  says = subst (λ (o : Outcome Reason). Explains o n part computed) (r .says) (record { itsKind = read ∙ e .itsKind; itsPart = e .itsPart; itsComputed = e .itsComputed });
+  itsWord = r .itsWord;
+  itsWork = r .itsWork;
+}

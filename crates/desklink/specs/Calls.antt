@@ -5,13 +5,16 @@ use Prim.Native.Nat.{ℕ}
 use lib.Ieee.{Float}
 use lib.IntN.{ℤ}
 use Rattle.refusal.specs.Outcome.{judged, kept}
-use Rattle.belief.specs.Rounds.{chosenBits}
+use Rattle.belief.specs.Rounds.{chosen, chosenBits}
 use Rattle.belief.specs.Chosen.{told}
 use Rattle.belief.specs.Graph.{cleared}
 use Rattle.decoders.specs.Calls.{Single}
+use Rattle.batch.specs.Codes.{decodeOf}
 use Rattle.batch.specs.Calls as batch
+use Rattle.reason.specs.Reasons.{reasonUnder}
+use Rattle.reason.specs.Calls as reason
 use Rattle.groups.specs.Groups.{groupRefusals, overwritten}
-use Rattle.desklink.specs.Coded.{codedUnit, Lent, Decodes}
+use Rattle.desklink.specs.Coded.{codedUnit, Lent, Decodes, Explains}
 
 -- a single decode
 pub record DecodeCall (s : Single) (n : ℤ) (rounds first : Lent) (bits : List ℕ) (work : List Float) : Type 0 where
@@ -28,3 +31,9 @@ pub record BatchCall (b : batch.Batch) (n : ℤ) (left : batch.Lent) : Type 0 wh
 pub record GroupsCall (b : batch.Batch) (sizes : List ℕ) (n : ℤ) (left : batch.Lent) : Type 0 where
   pub says : n ≡ codedUnit (judged (groupRefusals b sizes) tt)
   pub leaves : left ≡ kept (groupRefusals b sizes) (b .memory) (overwritten b sizes (batch.written b))
+
+-- why a frame is open
+pub record ReasonCall (a : reason.Asked) (n : ℤ) (part computed : Lent) (word : List ℕ) (work : List Float) : Type 0 where
+  pub says : Explains (judged (reason.refusals a) (reasonUnder (a .code) (a .rule) (a .scale) (a .values) (a .limit))) n part computed
+  pub itsWord : word ≡ kept (reason.refusals a) (a .word) (chosen (decodeOf (a .code) (a .rule) (a .scale) (a .values)) (a .limit))
+  pub itsWork : work ≡ kept (reason.refusals a) (a .work) (cleared (a .work))

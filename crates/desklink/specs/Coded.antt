@@ -8,6 +8,8 @@ use Rattle.refusal.specs.Outcome.{Outcome, accepted, refused}
 use Rattle.tanner.specs.Checks.{Syndrome}
 use Rattle.belief.specs.Chosen.{Told}
 use Rattle.batch.specs.Calls.{placeOf}
+use Rattle.reason.specs.declared.Reason.{Reason}
+use Rattle.reason.specs.declared.Reason.the-variants.{Nan, Check, Checksum, Clean}
 
 -- the signed number, of an accepted call the part `of` its value
 abbrev pub codedBy : {A : Type 0} → (A → ℕ) → Outcome A → ℤ
@@ -43,3 +45,28 @@ pub record Decodes (outcome : Outcome Told) (n : ℤ) (rounds first : Lent) : Ty
   pub itsCount : n ≡ codedBy (λ t. t .count) outcome
   pub itsRounds : rounds .after ≡ toldIn (λ t. t .rounds) outcome (rounds .before)
   pub itsFirst : first .after ≡ toldIn (λ t. placeOf (t .first)) outcome (first .before)
+
+-- a reason (N11) as three numbers: which it is, 0 for a clean frame; the NaN's position, the check's number or the carried checksum; and the computed
+-- checksum, each 0 where the reason has none
+abbrev pub kindOf : Reason → ℕ
+kindOf (Nan p) = 1
+kindOf (Check c) = 2
+kindOf (Checksum carried computed) = 3
+kindOf Clean = 0
+
+abbrev pub partOf : Reason → ℕ
+partOf (Nan p) = p
+partOf (Check c) = c
+partOf (Checksum carried computed) = carried
+partOf Clean = 0
+
+abbrev pub computedOf : Reason → ℕ
+computedOf (Nan p) = 0
+computedOf (Check c) = 0
+computedOf (Checksum carried computed) = computed
+computedOf Clean = 0
+
+pub record Explains (outcome : Outcome Reason) (n : ℤ) (part computed : Lent) : Type 0 where
+  pub itsKind : n ≡ codedBy kindOf outcome
+  pub itsPart : part .after ≡ toldIn partOf outcome (part .before)
+  pub itsComputed : computed .after ≡ toldIn computedOf outcome (computed .before)

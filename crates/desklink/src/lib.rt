@@ -1,5 +1,7 @@
 // The C interface: each call on numbers and slices, its answer one signed number. What more a call tells goes through the references lent for it.
 use decoders::Decoding;
+use reason::Explained;
+use reason::Reason;
 use records::Pair;
 use refusal::Answer;
 use refusal::Refusal;
@@ -30,8 +32,9 @@ ghost use Rattle.eighths.specs.Calls.{bytesRefusals, valuesRefusals, valuesOf, 
 ghost use Rattle.erasure.specs.Filling.{filledWord, filledPlaces, listed};
 ghost use Rattle.erasure.specs.Calls.{checksBy, erasureRefusals};
 ghost use Rattle.clean_frames.specs.Calls.{frameRefusals, cleanNumber};
-ghost use Rattle.desklink.specs.Coded.{coded, codedUnit, lent, Counts, Decodes};
-ghost use Rattle.desklink.specs.Calls.{DecodeCall, BatchCall, GroupsCall};
+ghost use Rattle.reason.specs.Calls as reason·calls;
+ghost use Rattle.desklink.specs.Coded.{coded, codedUnit, lent, Counts, Decodes, kindOf, partOf, computedOf, Explains};
+ghost use Rattle.desklink.specs.Calls.{DecodeCall, BatchCall, GroupsCall, ReasonCall};
 
 // ---- answers as numbers
 
@@ -95,6 +98,66 @@ fn decoding_code(answer: Decoding, rounds: &mut u16, first: &mut u16) -> i32
             value_code(told.count)
         }
         Decoding::Refused(r) => refusal_code(r),
+    }
+}
+
+// A reason's number: 0 for none, since the frame is clean, 1 for a NaN, 2 for a check, 3 for the checksum.
+fn kind_of(reason: Reason) -> u16
+    ensures { λ n. ⌜ n ≡ kindOf reason ⌝ }
+{
+    match reason {
+        Reason::Nan(_) => 1,
+        Reason::Check(_) => 2,
+        Reason::Checksum {
+            carried: _,
+            computed: _,
+        } => 3,
+        Reason::Clean => 0,
+    }
+}
+
+// The NaN's position, the check's number or the carried checksum; 0 where there is none.
+fn part_of(reason: Reason) -> u16
+    ensures { λ n. ⌜ n ≡ partOf reason ⌝ }
+{
+    match reason {
+        Reason::Nan(p) => p,
+        Reason::Check(c) => c,
+        Reason::Checksum {
+            carried,
+            computed: _,
+        } => carried,
+        Reason::Clean => 0,
+    }
+}
+
+// The computed checksum; 0 where there is none.
+fn computed_of(reason: Reason) -> u16
+    ensures { λ n. ⌜ n ≡ computedOf reason ⌝ }
+{
+    match reason {
+        Reason::Nan(_) => 0,
+        Reason::Check(_) => 0,
+        Reason::Checksum {
+            carried: _,
+            computed,
+        } => computed,
+        Reason::Clean => 0,
+    }
+}
+
+// A reason's number; its part and the computed checksum are written.
+fn reason_code(answer: Explained, part: &mut u16, computed: &mut u16) -> i32
+    ensures { λ n. ⌜ Explains (reason·calls.explainedOf answer) n (lent (now (part .entry)) (now (part .exit)))
+        (lent (now (computed .entry)) (now (computed .exit))) ⌝ }
+{
+    match answer {
+        Explained::Because(why) => {
+            *part = part_of(why);
+            *computed = computed_of(why);
+            value_code(kind_of(why))
+        }
+        Explained::Refused(r) => refusal_code(r),
     }
 }
 
@@ -389,6 +452,31 @@ pub extern "C" fn desklink_frame_clean_unguarded(
         (cleanNumber code (now (values .entry)) count (now (bits .entry)))) ⌝ }
 {
     answer_code(clean_frames::frame_clean(code, values, count, bits))
+}
+
+// ---- why a frame is open
+
+// `part` gets the NaN's position, the check's number or the carried checksum, and `computed` the computed one; each 0 where there is none.
+#[no_mangle]
+pub extern "C" fn desklink_frame_reason_unguarded(
+    code: u32,
+    rule: u32,
+    scale: f32,
+    limit: u16,
+    values: &[f32],
+    word: &mut [u8],
+    part: &mut u16,
+    computed: &mut u16,
+    work: &mut [f32],
+) -> i32
+    ensures { λ n. ⌜ ReasonCall (reason·calls.asked code rule scale limit (now (values .entry)) (now (word .entry)) (now (work .entry)))
+        n (lent (now (part .entry)) (now (part .exit))) (lent (now (computed .entry)) (now (computed .exit))) (now (word .exit)) (now (work .exit)) ⌝ }
+{
+    reason_code(
+        reason::frame_reason(code, rule, scale, limit, values, word, work),
+        part,
+        computed,
+    )
 }
 
 // ---- erasures
