@@ -2,7 +2,7 @@
 use mathlib.Core.Path.{_≡_, sym, ap, _∙_}
 use mathlib.Core.List.{List, [], _∷_, _++_}
 use Prim.Native.Nat.{ℕ, _+_, _-_, _≤_, _<_}
-use native.Mathlib.Nat.{add-comm, add-assoc, zero-add}
+use native.Mathlib.Nat.{add-comm, add-assoc, zero-add, add-zero}
 use native.Mathlib.Decide.{decLt}
 use native.Mathlib.Omega.{arith}
 use borrow.Author.Tests.{lt-ltb, le-ltb}
@@ -21,6 +21,14 @@ sums-assoc a b c =
 
 sums-nothing : (a : Totals) → sums nothingYet a ≡ a
 sums-nothing a = rw (zero-add (a .frames), zero-add (a .clean), zero-add (a .counts), zero-add (a .rounds))
+
+-- what two totals come to, joined with a third
+pub joined-further : (a b c : Totals) → judged (joinRefusals (sums a b) c) (sums (sums a b) c) ≡ judged (joinRefusals a (sums b c)) (sums a (sums b c))
+joined-further a b c =
+    rw (add-assoc (a .frames) (b .frames) (c .frames), add-assoc (a .clean) (b .clean) (c .clean), add-assoc (a .counts) (b .counts) (c .counts), add-assoc (a .rounds) (b .rounds) (c .rounds))
+
+pub nothing-added : (a : Totals) → sums a nothingYet ≡ a
+nothing-added a = rw (add-zero (a .frames), add-zero (a .clean), add-zero (a .counts), add-zero (a .rounds))
 
 -- "joining the totals of two batches equals the totals of all their frames"
 pub totals-joined : (xs ys : List Frame) → totalsOf (xs ++ ys) ≡ sums (totalsOf xs) (totalsOf ys)
