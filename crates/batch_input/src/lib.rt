@@ -4,7 +4,15 @@ ghost use mathlib.Core.Bool.{false};
 ghost use Prim.Native.Nat.{_+_, _*_, _<_, _≤_, min};
 ghost use lib.ListN.{length, take};
 ghost use Rattle.batch_input.specs.Input.{u16At, u32At, u32sFrom, floatOf, pairCount, valuesStart, pairNumbers, valuesOf, malformed};
-ghost use Rattle.batch_input.specs.Read.{Read};
+ghost use Rattle.batch_input.specs.Read.{Read, HeaderOf};
+
+// The numbers that a frame is decoded by.
+pub struct Header {
+    pub code: u32,
+    pub rule: u32,
+    pub limit: u16,
+    pub scale: f32,
+}
 
 pub fn u16_at(s: &[u8], i: usize) -> u16
     requires { ⌜ i + 2 ≤ length (now s) ⌝ }
@@ -57,6 +65,22 @@ pub fn load_values(input: &[u8], at: usize, values: &mut [f32])
     }
 }
 
+pub fn read_header(input: &[u8]) -> Header
+    requires { ⌜ 12 ≤ length (now input) ⌝ }
+    ensures { λ r. ⌜ HeaderOf (now (input .entry)) r ⌝ }
+{
+    let code = input[0] as u32;
+    let rule = input[1] as u32;
+    let limit = u16_at(input, 2);
+    let scale = float_of(u32_at(input, 4));
+    Header {
+        code,
+        rule,
+        limit,
+        scale,
+    }
+}
+
 pub fn pair_count(input: &[u8]) -> usize
     requires { ⌜ 12 ≤ length (now input) ⌝ }
     ensures { λ r. ⌜ r ≡ pairCount (now (input .entry)) ⌝ }
@@ -95,6 +119,20 @@ pub fn is_malformed(input: &[u8]) -> bool
 }
 
 // ---- the pairs and the values, read into lent arrays
+
+// Room for 25 pairs, and for the values of the longest input: each ensures its length alone.
+
+pub fn pairs_room() -> [u32; 50]
+    ensures { λ r. ⌜ 50 ≡ length r ⌝ }
+{
+    [0; 50]
+}
+
+pub fn values_room() -> [f32; 16384]
+    ensures { λ r. ⌜ 16384 ≡ length r ⌝ }
+{
+    [0.0; 16384]
+}
 
 // How many numbers of the pairs are read: 25 pairs are enough, since a batch of more is refused as one of 25 is.
 fn words_passed(frames: usize) -> usize

@@ -119,7 +119,7 @@ fn frame_lines(
 
 // ---- the listing
 
-// Room for the bits of 24 frames, for a number a frame, for 25 pairs and for the values of the longest input: each ensures its length alone.
+// Room for the bits of 24 frames, and for a number a frame: each ensures its length alone.
 
 fn bits_room() -> [u8; 9216]
     ensures { λ r. ⌜ 9216 ≡ length r ⌝ }
@@ -131,18 +131,6 @@ fn numbers_room() -> [u16; 24]
     ensures { λ r. ⌜ 24 ≡ length r ⌝ }
 {
     [0; 24]
-}
-
-fn pairs_room() -> [u32; 50]
-    ensures { λ r. ⌜ 50 ≡ length r ⌝ }
-{
-    [0; 50]
-}
-
-fn values_room() -> [f32; 16384]
-    ensures { λ r. ⌜ 16384 ≡ length r ⌝ }
-{
-    [0.0; 16384]
 }
 
 // The number of frames that have room in the outputs: none where there are too many.
@@ -171,15 +159,12 @@ fn decode_input(
         (statusOf r)
         (lent (now (bits .exit)) (now (counts .exit)) (now (rounds .exit)) (now (firsts .exit)) (now (work .exit))) ⌝ }
 {
-    let code = input[0] as u32;
-    let rule = input[1] as u32;
-    let limit = batch_input::u16_at(input, 2);
-    let scale = batch_input::float_of(batch_input::u32_at(input, 4));
+    let head = batch_input::read_header(input);
     batch::decode_batch(
-        code,
-        rule,
-        limit,
-        scale,
+        head.code,
+        head.rule,
+        head.limit,
+        head.scale,
         values,
         pairs,
         bits,
@@ -279,9 +264,9 @@ fn list_input(input: &[u8], out: &mut [u8]) -> usize
     ensures { λ r. ⌜ Written (now (out .entry)) 0 (listingOf (now (input .entry))) (now (out .exit)) r ⌝ }
     ensures { λ r. ⌜ r ≤ 4096 ⌝ }
 {
-    let mut pairs = pairs_room();
+    let mut pairs = batch_input::pairs_room();
     let words = batch_input::read_pairs(input, &mut pairs);
-    let mut values = values_room();
+    let mut values = batch_input::values_room();
     let n = batch_input::read_values(input, &mut values);
     list_frames(input, &values[..n], &pairs[..words], out)
 }
