@@ -7,6 +7,7 @@ use native.Mathlib.Omega.{arith}
 use borrow.Author.Tests.{lt-ltb, ltb-true}
 use lib.Dec.{ltb, lit≤}
 use lib.ListN.{length, take}
+use Rattle.refusal.specs.Outcome.{Outcome, accepted, judged}
 use Rattle.refusal.proofs.Judged.{verdict, nothing}
 use Rattle.batch.specs.Codes.{sizeN, sizeK}
 use Rattle.batch.specs.Pairs.{pairsOf, AllWithin}
@@ -17,7 +18,8 @@ use Rattle.batch.proofs.Whole.{all-inside, accepted-left}
 use Rattle.batch_input.specs.Input.{codeOf, ruleOf, limitOf, scaleOf, pairCount, pairNumbers, valuesOf}
 use Rattle.batch_input.specs.Handed.{batchIn, memoryFor}
 use Rattle.batch_input.proofs.Handed.{same-verdict, accepted-few, few-all, pairs-many, room-for}
-use Rattle.decoded_input.specs.Fronts.{held}
+use Rattle.decoded_input.specs.Fronts.{held, Sizes, sizesOf}
+use Rattle.decoded_input.proofs.Answers.{judged-given}
 
 -- ---- the frames that have room
 
@@ -35,22 +37,36 @@ pub room-right : (code n b c r f w : ℕ) → b ≡ n * sizeK code → c ≡ n �
     → _≡_ {A = Room} (record { bits = b; counts = c; rounds = r; firsts = f; work = w }) (roomOf (memoryFor code n))
 room-right code n b c r f w eb ec er ef ew = cc (room-for code n)
 
+pub sizes-given : {n k size bits : ℕ} → n ≡ k → size ≡ bits → _≡_ {A = Outcome Sizes} (accepted (record { frames = n; bits = size })) (accepted (record { frames = k; bits = bits }))
+sizes-given e f = rw (e, f)
+
 -- ---- an input whose batch is accepted
 
-pub record Accepted (s : List ℕ) : Type 0 where
-  pub few : pairCount s < 25
-  pub bits : pairCount s * sizeK (codeOf s) ≤ 9216
+-- of its sizes, as they are answered
+pub record Accepted (s : List ℕ) (n size : ℕ) : Type 0 where
+  pub agreed : verdict (refusals (batchIn s)) ≡ nothing
+  pub frames : n ≡ pairCount s
+  pub bits : size ≡ pairCount s * sizeK (codeOf s)
+  pub few : n ≤ 24
+  pub short : size ≤ 9216
   pub all : take 50 (pairNumbers s) ≡ pairNumbers s
   pub many : length (pairsOf (pairNumbers s)) ≡ pairCount s
   pub inside : AllWithin (sizeN (codeOf s)) (length (valuesOf s)) (pairsOf (pairNumbers s))
 
-pub accepted-input : (s : List ℕ) → verdict (refusals (batchIn s)) ≡ nothing → Accepted s
-accepted-input s v =
+pub accepted-input : (s : List ℕ) (n size : ℕ) → accepted (record { frames = n; bits = size }) ≡ judged (refusals (batchIn s)) (sizesOf s) → Accepted s n size
+accepted-input s n size e =
     let b = batchIn s in
+    let given = judged-given (refusals b) (sizesOf s) (record { frames = n; bits = size }) e in
+    let v = given .0 in
     let few = accepted-few s v in
+    let frames : n ≡ pairCount s = ap (λ (x : Sizes). x .frames) (given .1) in
+    let bits : size ≡ pairCount s * sizeK (codeOf s) = ap (λ (x : Sizes). x .bits) (given .1) in
     record {
-      few = few;
-      bits = product-small (pairCount s) (codeOf s) (omega arith);
+      agreed = v;
+      frames = frames;
+      bits = bits;
+      few = omega arith;
+      short = omega (arith, product-small (pairCount s) (codeOf s) (omega arith));
       all = few-all s few;
       many = pairs-many s;
       inside = all-inside (b .code) (b .rule) (length (b .values)) (b .pairs) (roomOf (b .memory)) v;

@@ -1,5 +1,6 @@
 // The batch of a program's input, decoded into lent arrays.
 use belief::WORK;
+use refusal::Refusal;
 use refusal::Status;
 ghost use mathlib.Core.Path.{_≡_};
 ghost use mathlib.Core.Bool.{false};
@@ -11,7 +12,7 @@ ghost use Rattle.batch.specs.Pairs.{pairsOf};
 ghost use Rattle.batch.specs.Calls.{lent, batch, refusals, Answered};
 ghost use Rattle.batch_input.specs.Input.{codeOf, ruleOf, limitOf, scaleOf, pairNumbers, valuesOf, malformed};
 ghost use Rattle.batch_input.specs.Handed.{batchIn};
-ghost use Rattle.decoded_input.specs.Fronts.{held, Fronts};
+ghost use Rattle.decoded_input.specs.Fronts.{held, sizesOf, decodedOf, Fronts};
 
 // Room for the bits of 24 frames, and for a number a frame: each ensures its length alone.
 
@@ -69,6 +70,12 @@ fn decode_input(
     )
 }
 
+// What the batch of an input comes to: how many frames it has and how many bits they have, or its refusal.
+pub enum Decoded {
+    Frames(usize, usize),
+    Refused(Refusal),
+}
+
 // The batch of an input that is not malformed, its values and pairs read: what it writes lies at the fronts of the arrays.
 pub fn decode_fronts(
     input: &[u8],
@@ -78,19 +85,19 @@ pub fn decode_fronts(
     counts: &mut [u16],
     rounds: &mut [u16],
     firsts: &mut [u16],
-) -> Status
+) -> Decoded
     requires { ⌜ malformed (now input) ≡ false ⌝ }
     requires { ⌜ (now values ≡ valuesOf (now input)) × (now pairs ≡ take 50 (pairNumbers (now input))) ⌝ }
     requires { ⌜ (9216 ≤ length (now bits)) × (24 ≤ length (now counts)) ⌝ }
     requires { ⌜ (24 ≤ length (now rounds)) × (24 ≤ length (now firsts)) ⌝ }
-    ensures { λ r. ⌜ statusOf r ≡ judged (refusals (batchIn (now (input .entry)))) tt ⌝ }
-    ensures { λ r. ⌜ (statusOf r ≡ accepted tt →
+    ensures { λ r. ⌜ decodedOf r ≡ judged (refusals (batchIn (now (input .entry)))) (sizesOf (now (input .entry))) ⌝ }
+    ensures { λ r. ⌜ (decodedOf r ≡ accepted (sizesOf (now (input .entry))) →
         Fronts (now (input .entry)) (now (bits .exit)) (now (counts .exit)) (now (rounds .exit)) (now (firsts .exit))) ⌝ }
 {
     let n = frames_held(batch_input::pair_count(input));
     let size = n * batch::message_bits(input[0] as u32);
     let mut work = [0.0f32; WORK];
-    decode_input(
+    if let Status::Refused(r) = decode_input(
         input,
         values,
         pairs,
@@ -99,5 +106,8 @@ pub fn decode_fronts(
         &mut rounds[..n],
         &mut firsts[..n],
         &mut work,
-    )
+    ) {
+        return Decoded::Refused(r);
+    }
+    Decoded::Frames(n, size)
 }

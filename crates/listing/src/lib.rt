@@ -1,5 +1,5 @@
 // The listing of a batch: the program's input read, and what is printed for it written into a lent buffer.
-use refusal::Status;
+use decoded_input::Decoded;
 ghost use mathlib.Core.Path.{_≡_};
 ghost use mathlib.Core.List.{[]};
 ghost use mathlib.Core.Bool.{false};
@@ -172,7 +172,7 @@ fn list_frames(input: &[u8], values: &[f32], pairs: &[u32], out: &mut [u8]) -> u
     let mut counts = decoded_input::numbers_room();
     let mut rounds = decoded_input::numbers_room();
     let mut firsts = decoded_input::numbers_room();
-    if let Status::Refused(r) = decoded_input::decode_fronts(
+    match decoded_input::decode_fronts(
         input,
         values,
         pairs,
@@ -181,20 +181,18 @@ fn list_frames(input: &[u8], values: &[f32], pairs: &[u32], out: &mut [u8]) -> u
         &mut rounds,
         &mut firsts,
     ) {
-        return text::refusal_line(out, 0, refusal::number(r) as u16);
+        Decoded::Refused(r) => text::refusal_line(out, 0, refusal::number(r) as u16),
+        Decoded::Frames(n, size) => write_frames(
+            input,
+            values,
+            pairs,
+            &bits[..size],
+            &counts[..n],
+            &rounds[..n],
+            &firsts[..n],
+            out,
+        ),
     }
-    let n = batch_input::pair_count(input);
-    let size = n * batch::message_bits(input[0] as u32);
-    write_frames(
-        input,
-        values,
-        pairs,
-        &bits[..size],
-        &counts[..n],
-        &rounds[..n],
-        &firsts[..n],
-        out,
-    )
 }
 
 // The listing of an input that is not malformed.

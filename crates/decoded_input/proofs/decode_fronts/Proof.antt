@@ -7,19 +7,19 @@ use lib.Ieee.{Float}
 use lib.ListN.{length, take, drop, replicate, length-replicate}
 use Rattle.refusal.specs.Outcome.{Outcome}
 use Rattle.refusal.specs.Answers.{statusOf}
-use Rattle.refusal.proofs.Judged.{nothing}
+use Rattle.refusal.proofs.Judged.{verdict, nothing, judged-accepted, judged-refused}
 use Rattle.softmath.specs.Single.{zero32}
 use Rattle.batch.specs.Codes.{sizeK}
 use Rattle.batch.specs.Pairs.{pairsOf}
-use Rattle.batch.specs.Calls.{Lent, lent, Batch, batch, roomOf, Answered}
+use Rattle.batch.specs.Calls.{Lent, lent, Batch, batch, roomOf, refusals, Answered}
 use Rattle.batch.proofs.Sizes.{product-small}
 use Rattle.batch_input.specs.Input.{codeOf, ruleOf, limitOf, scaleOf, pairCount, pairNumbers}
-use Rattle.batch_input.specs.Handed.{memoryFor}
+use Rattle.batch_input.specs.Handed.{batchIn, memoryFor}
 use Rattle.batch_input.proofs.Room.{part-length, back}
 use Rattle.batch_input.proofs.Wellformed.{Wellformed, wellformed}
 use Rattle.batch_input.proofs.Handed.{accepted-few}
-use Rattle.decoded_input.specs.Fronts.{held, Fronts}
-use Rattle.decoded_input.proofs.Handed.{held-few, held-all, room-right, handed, handed-verdict, Outputs, handed-outputs}
+use Rattle.decoded_input.specs.Fronts.{held, sizesOf, Fronts}
+use Rattle.decoded_input.proofs.Handed.{held-few, held-all, room-right, handed, handed-verdict, Outputs, handed-outputs, sizes-given}
 use borrow.Author.Needs.{needs}
 use Rattle.decoded_input.proofs.decode_fronts.Statement.{statement}
 use Rattle.decoded_input.proofs.decode_fronts.Tie as tie
@@ -116,6 +116,14 @@ answered d =
     (subst (λ (ns : List ℕ). Answered (over (entry (M d) .args .values .now) (pairsOf ns) (memory d)) (statusOf (d .decode-input .result)) (left d)) (p .1)
     (d .decode-input .ensures))
 
+-- what the whole input's batch comes to
+found : (d : tie.After-decode-input) → verdict (refusals (batchIn (input (M d)))) ≡ statusOf (d .decode-input .result)
+found d = sym (handed-verdict (input (M d)) (memory d) (exact d)) ∙ sym (answered d .says)
+
+-- the parts are back
+abbrev decoded : tie.After-work2 → tie.After-decode-input
+decoded w = w .before .before .before .before .before .before .before .before .before
+
 -- ---- an accepted call
 
 module _ (d : tie.After-decode-input) (ok : statusOf (d .decode-input .result) ≡ nothing) where
@@ -126,7 +134,10 @@ module _ (d : tie.After-decode-input) (ok : statusOf (d .decode-input .result) �
   all-held : N (M d) ≡ pairCount (input (M d))
   all-held =
       let s = input (M d) in
-      frames-are (M d) ∙ held-all (pairCount s) (accepted-few s (sym (handed-verdict s (memory d) (exact d)) ∙ sym (answered d .says) ∙ ok))
+      frames-are (M d) ∙ held-all (pairCount s) (accepted-few s (found d ∙ ok))
+
+  whole : size (M d) ≡ pairCount (input (M d)) * sizeK (codeOf (input (M d)))
+  whole = size-is (M d) ∙ ap (λ (n : ℕ). n * sizeK (codeOf (input (M d)))) all-held
 
   fronts : let a = entry (M d) .args in let n = N (M d) in
       Fronts (input (M d)) (bits′ d ++ drop (size (M d)) (a .bits .now)) (counts′ d ++ drop n (a .counts .now)) (rounds′ d ++ drop n (a .rounds .now)) (firsts′ d ++ drop n (a .firsts .now))
@@ -134,7 +145,6 @@ module _ (d : tie.After-decode-input) (ok : statusOf (d .decode-input .result) �
       let m = M d in
       let a = entry m .args in
       let kept = d .decode-input .kept .1 .1 .1 in
-      let whole : size m ≡ pairCount (input m) * sizeK (codeOf (input m)) = size-is m ∙ ap (λ (n : ℕ). n * sizeK (codeOf (input m))) all-held in
       record {
         itsBits = ap (λ (n : ℕ). take n (bits′ d ++ drop (size m) (a .bits .now))) (sym whole) ∙ back (a .bits .now) _ (bits-room m) (bits′ d) (kept .0) ∙ outputs .bits;
         itsCounts = ap (λ (n : ℕ). take n (counts′ d ++ drop (N m) (a .counts .now))) (sym all-held) ∙ back (a .counts .now) _ (counts-room m) (counts′ d) (kept .1 .0) ∙ outputs .counts;
@@ -192,6 +202,9 @@ slice-aggregate-decode-input-5 c = search needs
 decode-input-requires : tie.Need-decode-input-requires
 decode-input-requires c κs = good (entry (c .before .before .before .before .before)) .head
 
+enum-known-r : tie.Need-enum-known-r
+enum-known-r c = search needs
+
 same-length : tie.Need-same-length
 same-length c = search needs
 
@@ -206,8 +219,33 @@ same-length-4 c = search needs
 
 returns : tie.Need-returns
 returns c =
-    let d = c .before .before .before .before .before .before .before .before .before in
-    (answered d .says ∙ handed-verdict (input (M d)) (memory d) (exact d), fronts d)
+    let r = c .before in
+    let d = decoded (r .before .before) in
+    let s = input (M d) in
+    let turned = found d ∙ ap statusOf (r .r .given .1) in
+    (sym (judged-refused (refusals (batchIn s)) (sizesOf s) _ turned), λ e. let z : _≡_ {A = ℕ} 0 1 = cc in absurd (omega arith))
+
+enum-told : tie.Need-enum-told
+enum-told c = search needs
+
+same-length-5 : tie.Need-same-length-5
+same-length-5 c = search needs
+
+same-length-6 : tie.Need-same-length-6
+same-length-6 c = search needs
+
+same-length-7 : tie.Need-same-length-7
+same-length-7 c = search needs
+
+same-length-8 : tie.Need-same-length-8
+same-length-8 c = search needs
+
+returns-2 : tie.Need-returns-2
+returns-2 c =
+    let d = decoded (c .before .before) in
+    let s = input (M d) in
+    let ok = ap statusOf (c .enum-told .given .1) in
+    (sizes-given (all-held d ok) (whole d ok) ∙ sym (judged-accepted (refusals (batchIn s)) (sizesOf s) (found d ∙ ok)), λ e. fronts d ok)
 
 pub decode-fronts-spec : {M : Type 1} → statement M
 decode-fronts-spec =
@@ -229,8 +267,15 @@ decode-fronts-spec =
     slice-aggregate-decode-input-4
     slice-aggregate-decode-input-5
     decode-input-requires
+    enum-known-r
     same-length
     same-length-2
     same-length-3
     same-length-4
-    returns)
+    returns
+    enum-told
+    same-length-5
+    same-length-6
+    same-length-7
+    same-length-8
+    returns-2)

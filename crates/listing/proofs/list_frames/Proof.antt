@@ -5,18 +5,17 @@ use Prim.Native.Nat.{ℕ, _*_, _≤_}
 use native.Mathlib.Omega.{arith}
 use lib.ListN.{length, take}
 use lib.Seq.{length-take-le}
-use Rattle.refusal.specs.Answers.{statusOf}
-use Rattle.refusal.proofs.Judged.{verdict, nothing}
 use Rattle.text.specs.Text.{refusalLine}
 use Rattle.text.proofs.Lengths.{refusal-short}
 use Rattle.batch.specs.Codes.{sizeK}
 use Rattle.batch.specs.Pairs.{pairsOf}
 use Rattle.batch.specs.Calls.{refusals}
-use Rattle.batch_input.specs.Input.{codeOf, pairCount, pairNumbers}
+use Rattle.batch_input.specs.Input.{codeOf, pairNumbers}
 use Rattle.batch_input.specs.Handed.{batchIn}
-use Rattle.batch_input.proofs.Wellformed.{Wellformed, wellformed}
-use Rattle.decoded_input.specs.Fronts.{Fronts}
-use Rattle.decoded_input.proofs.Handed.{Accepted, accepted-input}
+use Rattle.batch_input.proofs.Wellformed.{wellformed}
+use Rattle.decoded_input.specs.Fronts.{sizesOf, decodedOf, Fronts}
+use Rattle.decoded_input.proofs.Answers.{judged-turned}
+use Rattle.decoded_input.proofs.Handed.{sizes-given, Accepted, accepted-input}
 use Rattle.listing.proofs.Lines.{refused-line, accepted-short, fronts-text}
 use borrow.Author.Needs.{needs}
 use Rattle.listing.proofs.list_frames.Statement.{statement}
@@ -24,17 +23,14 @@ use Rattle.listing.proofs.list_frames.Tie as tie
 
 -- ---- the call
 
-abbrev entry : tie.After-decode-fronts → tie.Start
-entry d = d .before .before .before .before .before .before .before .before .before .before .before .before .before
+abbrev arrays : tie.After-decode-fronts → tie.After-numbers-room3
+arrays d = d .before .before .before .before .before
+
+abbrev entry : tie.After-numbers-room3 → tie.Start
+entry r = r .before .before .before .before .before .before .before .before
 
 abbrev input : tie.After-decode-fronts → List ℕ
-input d = entry d .args .input .now
-
-good : (d : tie.After-decode-fronts) → Wellformed (input d)
-good d = wellformed (input d) (entry d .pre .0)
-
-found : (d : tie.After-decode-fronts) → verdict (refusals (batchIn (input d))) ≡ statusOf (d .decode-fronts .result)
-found d = sym (d .decode-fronts .ensures .0)
+input d = entry (arrays d) .args .input .now
 
 -- the arrays after it
 abbrev bits : tie.After-decode-fronts → List ℕ
@@ -49,70 +45,49 @@ rounds d = d .decode-fronts .last .1 .1 .1 .1 .1 .0
 abbrev firsts : tie.After-decode-fronts → List ℕ
 firsts d = d .decode-fronts .last .1 .1 .1 .1 .1 .1 .0
 
--- ---- an accepted call
+-- ---- refused
 
-abbrev called : tie.After-enum-told → tie.After-decode-fronts
-called t = t .before .before .before .before .before .before
+abbrev turned : tie.After-r → tie.After-decode-fronts
+turned r = r .before .before .before .before .before .before
 
-ok : (t : tie.After-enum-told) → statusOf (called t .decode-fronts .result) ≡ nothing
-ok t = ap statusOf (t .enum-told .given .1)
+-- ---- accepted: so many frames, and so many bits
 
-agreed : (t : tie.After-enum-told) → verdict (refusals (batchIn (input (called t)))) ≡ nothing
-agreed t = found (called t) ∙ ok t
+abbrev called : tie.After-n → tie.After-decode-fronts
+called k = k .before .before .before .before .before .before
 
-known : (t : tie.After-enum-told) → Accepted (input (called t))
-known t = accepted-input (input (called t)) (agreed t)
+abbrev N : tie.After-n → ℕ
+N k = k .n .given .0 .0
 
-wrote : (t : tie.After-enum-told) → let d = called t in Fronts (input d) (bits d) (counts d) (rounds d) (firsts d)
-wrote t = called t .decode-fronts .ensures .1 (ok t)
+abbrev size : tie.After-n → ℕ
+size k = k .n .given .0 .1 .0
+
+known : (k : tie.After-n) → Accepted (input (called k)) (N k) (size k)
+known k = accepted-input (input (called k)) (N k) (size k) (sym (ap decodedOf (k .n .given .1)) ∙ called k .decode-fronts .ensures .0)
+
+wrote : (k : tie.After-n) → let d = called k in Fronts (input d) (bits d) (counts d) (rounds d) (firsts d)
+wrote k = called k .decode-fronts .ensures .1 (ap decodedOf (k .n .given .1) ∙ sizes-given (known k .frames) (known k .bits))
 
 -- the pairs handed over are all pairs
-pairs-all : (t : tie.After-enum-told) → entry (called t) .args .pairs .now ≡ pairNumbers (input (called t))
-pairs-all t = entry (called t) .pre .1 .1 .0 ∙ known t .all
+pairs-all : (k : tie.After-n) → entry (arrays (called k)) .args .pairs .now ≡ pairNumbers (input (called k))
+pairs-all k = entry (arrays (called k)) .pre .1 .1 .0 ∙ known k .all
 
-pairs-same : (t : tie.After-enum-told) → pairsOf (entry (called t) .args .pairs .now) ≡ pairsOf (pairNumbers (input (called t)))
-pairs-same t = ap (λ (ns : List ℕ). pairsOf ns) (pairs-all t)
-
--- ---- the frames and their bits, as computed
-
-abbrev told : tie.After-message-bits → tie.After-enum-told
-told m = m .before .before .before
-
-abbrev D : tie.After-message-bits → tie.After-decode-fronts
-D m = called (told m)
-
-abbrev N : tie.After-message-bits → ℕ
-N m = m .before .before .pair-count .result
-
-abbrev size : tie.After-message-bits → ℕ
-size m = N m * m .message-bits .result
-
-n-is : (m : tie.After-message-bits) → N m ≡ pairCount (input (D m))
-n-is m = m .before .before .pair-count .ensures .0
-
-size-is : (m : tie.After-message-bits) → size m ≡ pairCount (input (D m)) * sizeK (codeOf (input (D m)))
-size-is m = ap (λ (k : ℕ). N m * k) (m .message-bits .ensures) ∙ ap (λ (n : ℕ). n * sizeK (codeOf (input (D m)))) (n-is m)
-
-few : (m : tie.After-message-bits) → N m ≤ 24
-few m = omega (arith, n-is m, known (told m) .few)
-
-size-fits : (m : tie.After-message-bits) → size m ≤ 9216
-size-fits m = omega (arith, size-is m, known (told m) .bits)
+pairs-same : (k : tie.After-n) → pairsOf (entry (arrays (called k)) .args .pairs .now) ≡ pairsOf (pairNumbers (input (called k)))
+pairs-same k = ap (λ (ns : List ℕ). pairsOf ns) (pairs-all k)
 
 -- they lie within the arrays
-bits-room : (m : tie.After-message-bits) → size m ≤ length (bits (D m))
-bits-room m = let d = D m in omega (arith, size-fits m, d .decode-fronts .kept .1 .1 .1 .0, d .before .before .before .before .before .before .before .before .bits-room .ensures)
+bits-room : (k : tie.After-n) → size k ≤ length (bits (called k))
+bits-room k = let d = called k in omega (arith, known k .short, d .decode-fronts .kept .1 .1 .1 .0, arrays d .before .before .before .bits-room .ensures)
 
-counts-room : (m : tie.After-message-bits) → N m ≤ length (counts (D m))
-counts-room m = let d = D m in omega (arith, few m, d .decode-fronts .kept .1 .1 .1 .1 .0, d .before .before .before .before .before .before .before .numbers-room .ensures)
+counts-room : (k : tie.After-n) → N k ≤ length (counts (called k))
+counts-room k = let d = called k in omega (arith, known k .few, d .decode-fronts .kept .1 .1 .1 .1 .0, arrays d .before .before .numbers-room .ensures)
 
-rounds-room : (m : tie.After-message-bits) → N m ≤ length (rounds (D m))
-rounds-room m = let d = D m in omega (arith, few m, d .decode-fronts .kept .1 .1 .1 .1 .1 .0, d .before .before .before .before .before .before .numbers-room2 .ensures)
+rounds-room : (k : tie.After-n) → N k ≤ length (rounds (called k))
+rounds-room k = let d = called k in omega (arith, known k .few, d .decode-fronts .kept .1 .1 .1 .1 .1 .0, arrays d .before .numbers-room2 .ensures)
 
-firsts-room : (m : tie.After-message-bits) → N m ≤ length (firsts (D m))
-firsts-room m = let d = D m in omega (arith, few m, d .decode-fronts .kept .1 .1 .1 .1 .1 .1 .0, d .before .before .before .before .before .numbers-room3 .ensures)
+firsts-room : (k : tie.After-n) → N k ≤ length (firsts (called k))
+firsts-room k = let d = called k in omega (arith, known k .few, d .decode-fronts .kept .1 .1 .1 .1 .1 .1 .0, arrays d .numbers-room3 .ensures)
 
--- an array's front, by its size as computed
+-- an array's front, by the size that was answered
 front : {n k : ℕ} (l : List ℕ) {whole : List ℕ} → n ≡ k → take k l ≡ whole → take n l ≡ whole
 front l e f = ap (λ (i : ℕ). take i l) e ∙ f
 
@@ -145,7 +120,7 @@ slice-aggregate-decode-fronts-4 c = search needs
 decode-fronts-requires : tie.Need-decode-fronts-requires
 decode-fronts-requires c κs =
     let r = c .before .before .before .before in
-    let p = r .before .before .before .before .before .before .before .before .pre in (
+    let p = entry r .pre in (
       p .0,
       (
         (p .1 .0, p .1 .1 .0),
@@ -167,8 +142,58 @@ cast-refusal-line c = search needs
 
 refusal-line-requires : tie.Need-refusal-line-requires
 refusal-line-requires c κs =
-    let d = c .before .before .before .before .before .before .before .before .before in
-    omega (arith, refusal-short (c .number .result), entry d .pre .1 .1 .1)
+    let d = turned (c .before .before .before) in
+    omega (arith, refusal-short (c .number .result), entry (arrays d) .pre .1 .1 .1)
+
+enum-known-n : tie.Need-enum-known-n
+enum-known-n c = search needs
+
+array-share-prefix-bits : tie.Need-array-share-prefix-bits
+array-share-prefix-bits c = bits-room (c .before)
+
+slice-aggregate-write-frames : tie.Need-slice-aggregate-write-frames
+slice-aggregate-write-frames c = sym (length-take-le _ _ (bits-room (c .before .before)))
+
+array-share-prefix-counts : tie.Need-array-share-prefix-counts
+array-share-prefix-counts c = counts-room (c .before .before)
+
+slice-aggregate-write-frames-2 : tie.Need-slice-aggregate-write-frames-2
+slice-aggregate-write-frames-2 c = sym (length-take-le _ _ (counts-room (c .before .before .before)))
+
+array-share-prefix-rounds : tie.Need-array-share-prefix-rounds
+array-share-prefix-rounds c = rounds-room (c .before .before .before)
+
+slice-aggregate-write-frames-3 : tie.Need-slice-aggregate-write-frames-3
+slice-aggregate-write-frames-3 c = sym (length-take-le _ _ (rounds-room (c .before .before .before .before)))
+
+array-share-prefix-firsts : tie.Need-array-share-prefix-firsts
+array-share-prefix-firsts c = firsts-room (c .before .before .before .before)
+
+slice-aggregate-write-frames-4 : tie.Need-slice-aggregate-write-frames-4
+slice-aggregate-write-frames-4 c = sym (length-take-le _ _ (firsts-room (c .before .before .before .before .before)))
+
+write-frames-requires : tie.Need-write-frames-requires
+write-frames-requires c κs =
+    let k = c .before .before .before .before .before .before in
+    let d = called k in
+    let p = entry (arrays d) .pre in
+    let good = known k in
+    let head = wellformed (input d) (p .0) .head in
+    let n : N k ≡ length (pairsOf (pairNumbers (input d))) = good .frames ∙ sym (good .many) in
+    let bytes : size k ≡ length (pairsOf (pairNumbers (input d))) * sizeK (codeOf (input d)) = good .bits ∙ ap (λ (i : ℕ). i * sizeK (codeOf (input d))) (sym (good .many)) in
+    rw (p .1 .0, pairs-same k) (
+      (head, sym (good .many)),
+      (
+        good .inside,
+        (
+          omega (arith, n, good .few),
+          (
+            (length-take-le _ _ (counts-room k) ∙ n, length-take-le _ _ (bits-room k) ∙ bytes),
+            ((length-take-le _ _ (rounds-room k) ∙ n, length-take-le _ _ (firsts-room k) ∙ n), p .1 .1 .1),
+          ),
+        ),
+      ),
+    )
 
 same-length : tie.Need-same-length
 same-length c = search needs
@@ -178,74 +203,12 @@ returns c =
     let done = c .before .before in
     let named = done .before in
     let r = named .before .before .before in
-    let d = r .before .before .before .before .before .before in
-    let wrote = done .refusal-line .ensures in
-    let line = ap refusalLine (named .number .ensures) ∙ refused-line (input d) (entry d .pre .0) _ (found d ∙ ap statusOf (r .r .given .1)) in
-    (rw line at wrote, omega (arith, wrote .end, refusal-short (named .number .result)))
-
-enum-told : tie.Need-enum-told
-enum-told c = search needs
-
-pair-count-requires : tie.Need-pair-count-requires
-pair-count-requires c κs = good (called c) .head
-
-shared-slice-read-message-bits : tie.Need-shared-slice-read-message-bits
-shared-slice-read-message-bits c = omega (arith, good (called (c .before .before)) .head)
-
-cast-message-bits : tie.Need-cast-message-bits
-cast-message-bits c = omega (arith, c .shared-slice-known4 .given 0)
-
-message-bits-requires : tie.Need-message-bits-requires
-message-bits-requires c κs = search needs
-
-mul-size : tie.Need-mul-size
-mul-size c = omega (arith, size-fits c)
-
-array-share-prefix-bits : tie.Need-array-share-prefix-bits
-array-share-prefix-bits c = bits-room c
-
-slice-aggregate-write-frames : tie.Need-slice-aggregate-write-frames
-slice-aggregate-write-frames c = sym (length-take-le _ _ (bits-room (c .before)))
-
-array-share-prefix-counts : tie.Need-array-share-prefix-counts
-array-share-prefix-counts c = counts-room (c .before)
-
-slice-aggregate-write-frames-2 : tie.Need-slice-aggregate-write-frames-2
-slice-aggregate-write-frames-2 c = sym (length-take-le _ _ (counts-room (c .before .before)))
-
-array-share-prefix-rounds : tie.Need-array-share-prefix-rounds
-array-share-prefix-rounds c = rounds-room (c .before .before)
-
-slice-aggregate-write-frames-3 : tie.Need-slice-aggregate-write-frames-3
-slice-aggregate-write-frames-3 c = sym (length-take-le _ _ (rounds-room (c .before .before .before)))
-
-array-share-prefix-firsts : tie.Need-array-share-prefix-firsts
-array-share-prefix-firsts c = firsts-room (c .before .before .before)
-
-slice-aggregate-write-frames-4 : tie.Need-slice-aggregate-write-frames-4
-slice-aggregate-write-frames-4 c = sym (length-take-le _ _ (firsts-room (c .before .before .before .before)))
-
-write-frames-requires : tie.Need-write-frames-requires
-write-frames-requires c κs =
-    let m = c .before .before .before .before .before in
-    let d = D m in
-    let p = entry d .pre in
-    let k = known (told m) in
-    let n : N m ≡ length (pairsOf (pairNumbers (input d))) = n-is m ∙ sym (k .many) in
-    let bytes : size m ≡ length (pairsOf (pairNumbers (input d))) * sizeK (codeOf (input d)) = size-is m ∙ ap (λ (i : ℕ). i * sizeK (codeOf (input d))) (sym (k .many)) in
-    rw (p .1 .0, pairs-same (told m)) (
-      (good d .head, sym (k .many)),
-      (
-        k .inside,
-        (
-          omega (arith, k .many, k .few),
-          (
-            (length-take-le _ _ (counts-room m) ∙ n, length-take-le _ _ (bits-room m) ∙ bytes),
-            ((length-take-le _ _ (rounds-room m) ∙ n, length-take-le _ _ (firsts-room m) ∙ n), p .1 .1 .1),
-          ),
-        ),
-      ),
-    )
+    let d = turned r in
+    let s = input d in
+    let shown = done .refusal-line .ensures in
+    let number = judged-turned (refusals (batchIn s)) (sizesOf s) _ (sym (ap decodedOf (r .r .given .1)) ∙ d .decode-fronts .ensures .0) in
+    let line = ap refusalLine (named .number .ensures) ∙ refused-line s (entry (arrays d) .pre .0) _ number in
+    (rw line at shown, omega (arith, shown .end, refusal-short (named .number .result)))
 
 same-length-2 : tie.Need-same-length-2
 same-length-2 c = search needs
@@ -253,16 +216,17 @@ same-length-2 c = search needs
 returns-2 : tie.Need-returns-2
 returns-2 c =
     let done = c .before .before in
-    let m = done .before .before .before .before .before .before in
-    let t = told m in
-    let d = D m in
-    let w = wrote t in
+    let k = done .before .before .before .before .before .before .before in
+    let d = called k in
+    let p = entry (arrays d) .pre in
+    let w = wrote k in
+    let good = known k in
     let text =
-    fronts-text (input d) (entry d .pre .0) (agreed t) (entry d .pre .1 .0) (pairs-all t) (front (bits d) (size-is m) (w .itsBits))
-    (front (counts d) (n-is m) (w .itsCounts)) (front (rounds d) (n-is m) (w .itsRounds)) (front (firsts d) (n-is m) (w .itsFirsts))
+    fronts-text (input d) (p .0) (good .agreed) (p .1 .0) (pairs-all k) (front (bits d) (good .bits) (w .itsBits))
+    (front (counts d) (good .frames) (w .itsCounts)) (front (rounds d) (good .frames) (w .itsRounds)) (front (firsts d) (good .frames) (w .itsFirsts))
     in
     let shown = rw text at (done .write-frames .ensures) in
-    (shown, omega (arith, shown .end, accepted-short (input d) (entry d .pre .0) (agreed t)))
+    (shown, omega (arith, shown .end, accepted-short (input d) (p .0) (good .agreed)))
 
 pub list-frames-spec : {M : Type 1} → statement M
 list-frames-spec =
@@ -281,14 +245,7 @@ list-frames-spec =
     number-requires
     cast-refusal-line
     refusal-line-requires
-    same-length
-    returns
-    enum-told
-    pair-count-requires
-    shared-slice-read-message-bits
-    cast-message-bits
-    message-bits-requires
-    mul-size
+    enum-known-n
     array-share-prefix-bits
     slice-aggregate-write-frames
     array-share-prefix-counts
@@ -298,5 +255,7 @@ list-frames-spec =
     array-share-prefix-firsts
     slice-aggregate-write-frames-4
     write-frames-requires
+    same-length
+    returns
     same-length-2
     returns-2)
