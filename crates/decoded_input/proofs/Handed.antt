@@ -40,6 +40,10 @@ room-right code n b c r f w eb ec er ef ew = cc (room-for code n)
 pub sizes-given : {n k size bits : ℕ} → n ≡ k → size ≡ bits → _≡_ {A = Outcome Sizes} (accepted (record { frames = n; bits = size })) (accepted (record { frames = k; bits = bits }))
 sizes-given e f = rw (e, f)
 
+-- an array's front, by the size that was answered
+pub front : {n k : ℕ} (l : List ℕ) {whole : List ℕ} → n ≡ k → take k l ≡ whole → take n l ≡ whole
+front l e f = ap (λ (i : ℕ). take i l) e ∙ f
+
 -- ---- an input whose batch is accepted
 
 -- of its sizes, as they are answered

@@ -15,7 +15,7 @@ use Rattle.batch_input.specs.Handed.{batchIn}
 use Rattle.batch_input.proofs.Wellformed.{wellformed}
 use Rattle.decoded_input.specs.Fronts.{sizesOf, decodedOf, Fronts}
 use Rattle.decoded_input.proofs.Answers.{judged-turned}
-use Rattle.decoded_input.proofs.Handed.{sizes-given, Accepted, accepted-input}
+use Rattle.decoded_input.proofs.Handed.{sizes-given, front, Accepted, accepted-input}
 use Rattle.listing.proofs.Lines.{refused-line, accepted-short, fronts-text}
 use borrow.Author.Needs.{needs}
 use Rattle.listing.proofs.list_frames.Statement.{statement}
@@ -86,10 +86,6 @@ rounds-room k = let d = called k in omega (arith, known k .few, d .decode-fronts
 
 firsts-room : (k : tie.After-n) → N k ≤ length (firsts (called k))
 firsts-room k = let d = called k in omega (arith, known k .few, d .decode-fronts .kept .1 .1 .1 .1 .1 .1 .0, arrays d .numbers-room3 .ensures)
-
--- an array's front, by the size that was answered
-front : {n k : ℕ} (l : List ℕ) {whole : List ℕ} → n ≡ k → take k l ≡ whole → take n l ≡ whole
-front l e f = ap (λ (i : ℕ). take i l) e ∙ f
 
 -- ---- the needs
 
