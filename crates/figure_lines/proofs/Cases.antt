@@ -5,7 +5,7 @@ use Rattle.text.specs.Text.{leading, decimal, field, refusalLine}
 use Rattle.digits.specs.Digits.{digitsFrom, digits, numbered}
 use Rattle.figures.specs.Fraction.{gcdWithin, gcd, lowest}
 use Rattle.figures.specs.Totals.{nothingYet}
-use Rattle.figure_lines.specs.Lines.{sumsText, fractionText, figuresText, totalsLine, fileLine}
+use Rattle.figure_lines.specs.Lines.{sumsText, fractionText, figuresText, totalsLine, refusedLine, unreadableLine, fileLine}
 use Rattle.figure_lines.specs.declared.Reason.the-variants.{Refused, Unreadable}
 use Rattle.refusal.specs.declared.Refusal.the-variants.{Malformed}
 
@@ -22,5 +22,5 @@ none = refl
 
 -- `2 refused 13` and `3 unreadable`
 files : (fileLine 2 (Refused Malformed) ≡ 50 ∷ 32 ∷ 114 ∷ 101 ∷ 102 ∷ 117 ∷ 115 ∷ 101 ∷ 100 ∷ 32 ∷ 49 ∷ 51 ∷ 10 ∷ []) × (fileLine 3 Unreadable ≡ 51 ∷ 32 ∷ 117 ∷ 110 ∷ 114 ∷ 101 ∷ 97 ∷ 100 ∷ 97 ∷ 98 ∷ 108 ∷ 101 ∷ 10 ∷ [])
-unfolding fileLine digits digitsFrom leading refusalLine field decimal
+unfolding refusedLine unreadableLine digits digitsFrom leading refusalLine field decimal
 files = (refl, refl)

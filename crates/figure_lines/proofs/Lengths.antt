@@ -16,7 +16,7 @@ use Rattle.digits.specs.Digits.{digits, numbered}
 use Rattle.digits.proofs.Digits.{digits-short, numbered-length}
 use Rattle.figures.specs.Fraction.{Fraction, lowest}
 use Rattle.figures.specs.declared.Totals.{Totals}
-use Rattle.figure_lines.specs.Lines.{framesWord, cleanWord, countsWord, roundsWord, shareWord, meanWord, slash, sumsText, fractionText, figuresText, totalsLine, fileLine}
+use Rattle.figure_lines.specs.Lines.{framesWord, cleanWord, countsWord, roundsWord, shareWord, meanWord, slash, sumsText, fractionText, figuresText, totalsLine, refusedLine, unreadableLine, fileLine}
 use Rattle.figure_lines.specs.declared.Reason.{Reason}
 use Rattle.figure_lines.specs.declared.Reason.the-variants.{Refused, Unreadable}
 
@@ -75,6 +75,6 @@ pub digits-room : (n at size : ℕ) → at + 20 ≤ size → at + length (digits
 digits-room n at size h = omega (arith, digits-short n)
 
 pub file-short : (place : ℕ) (reason : Reason) → length (fileLine place reason) ≤ 35
-unfolding fileLine
+unfolding refusedLine unreadableLine
 file-short place (Refused r) = simp length-append (omega (arith, digits-short place, refusal-short (numberOf r)))
 file-short place Unreadable = simp length-append (omega (arith, digits-short place))

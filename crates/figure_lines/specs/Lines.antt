@@ -65,7 +65,14 @@ totalsLine t = printed (judged (fractionRefusals (t .frames)) (figuresText t (lo
 
 -- ---- a file that is not counted
 
--- its place, and why: `2 refused 13` or `3 unreadable`
-unfoldable pub fileLine : ℕ → Reason → List ℕ
-fileLine place (Refused r) = digits place ++ (space ++ refusalLine (numberOf r))
-fileLine place Unreadable = digits place ++ (unreadableWord ++ newline)
+-- its place, and why: `2 refused 13`
+unfoldable pub refusedLine : ℕ → ℕ → List ℕ
+refusedLine place number = digits place ++ (space ++ refusalLine number)
+
+-- or `3 unreadable`
+unfoldable pub unreadableLine : ℕ → List ℕ
+unreadableLine place = digits place ++ (unreadableWord ++ newline)
+
+abbrev pub fileLine : ℕ → Reason → List ℕ
+fileLine place (Refused r) = refusedLine place (numberOf r)
+fileLine place Unreadable = unreadableLine place

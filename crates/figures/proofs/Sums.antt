@@ -15,11 +15,11 @@ use Rattle.figures.specs.declared.Totals.{Totals}
 pub either-order : (a b : Totals) → judged (joinRefusals a b) (sums a b) ≡ judged (joinRefusals b a) (sums b a)
 either-order a b = rw (add-comm (a .frames) (b .frames), add-comm (a .clean) (b .clean), add-comm (a .counts) (b .counts), add-comm (a .rounds) (b .rounds))
 
-sums-assoc : (a b c : Totals) → sums (sums a b) c ≡ sums a (sums b c)
+pub sums-assoc : (a b c : Totals) → sums (sums a b) c ≡ sums a (sums b c)
 sums-assoc a b c =
     rw (add-assoc (a .frames) (b .frames) (c .frames), add-assoc (a .clean) (b .clean) (c .clean), add-assoc (a .counts) (b .counts) (c .counts), add-assoc (a .rounds) (b .rounds) (c .rounds))
 
-sums-nothing : (a : Totals) → sums nothingYet a ≡ a
+pub sums-nothing : (a : Totals) → sums nothingYet a ≡ a
 sums-nothing a = rw (zero-add (a .frames), zero-add (a .clean), zero-add (a .counts), zero-add (a .rounds))
 
 -- what two totals come to, joined with a third

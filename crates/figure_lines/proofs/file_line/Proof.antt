@@ -5,7 +5,7 @@ use lib.ListN.{length}
 use Rattle.text.proofs.Put.{then}
 use Rattle.text.proofs.Lengths.{refusal-short}
 use Rattle.digits.proofs.Digits.{digits-short}
-use Rattle.figure_lines.specs.Lines.{fileLine}
+use Rattle.figure_lines.specs.Lines.{refusedLine, unreadableLine}
 use Rattle.figure_lines.proofs.Lengths.{room-after, digits-room}
 use borrow.Author.Needs.{needs}
 use Rattle.figure_lines.proofs.file_line.Statement.{statement}
@@ -75,7 +75,7 @@ same-length : tie.Need-same-length
 same-length c = search needs
 
 returns : tie.Need-returns
-unfolding fileLine
+unfolding refusedLine
 returns c =
     let d = c .before .before in
     let b = d .before .before .before .before .before in
@@ -89,7 +89,7 @@ same-length-2 : tie.Need-same-length-2
 same-length-2 c = search needs
 
 returns-2 : tie.Need-returns-2
-unfolding fileLine
+unfolding unreadableLine
 returns-2 c =
     let e = c .before .before in
     let w = e .before .before .before .before in
