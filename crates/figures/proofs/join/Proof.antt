@@ -1,12 +1,12 @@
 -- `figures::join` meets its contract, test by test: where no sum passes its limit, none wraps.
 use mathlib.Core.Path.{_≡_, sym, _∙_}
 use mathlib.Core.Bool.{false}
-use Prim.Native.Nat.{_+_}
 use native.Mathlib.Omega.{arith}
 use borrow.Author.Tests.{ltb-false}
 use borrow.Author.Needs.{needs}
-use Rattle.figures.specs.Totals.{passed}
+use Rattle.figures.specs.Totals.{passed, sums}
 use Rattle.figures.specs.declared.Totals.{Totals}
+use Rattle.figures.proofs.Limits.{Within}
 use Rattle.figures.proofs.join.Statement.{statement}
 use Rattle.figures.proofs.join.Tie as tie
 
@@ -43,6 +43,15 @@ rounds-fit : (e : tie.Else4) → passed (a (first e) .rounds) (b (first e) .roun
 rounds-fit e = sym (e .before .passes4 .ensures) ∙ e .if4 .left
 
 -- the sums are made after the last test
+within : (e : tie.Else4) → Within (sums (a (first e)) (b (first e)))
+within e =
+    record {
+      frames = ltb-false _ _ (frames-fit (first e));
+      clean = ltb-false _ _ (clean-fit (cleaned (counted e)));
+      counts = ltb-false _ _ (counts-fit (counted e));
+      rounds = ltb-false _ _ (rounds-fit e);
+    }
+
 abbrev tested : tie.After-struct-known4 → tie.Else4
 tested c = c .before .before
 
@@ -86,24 +95,16 @@ returns-4 c =
     simp (frames-fit (framed (cleaned e)), clean-fit (cleaned e), counts-fit e, sym (c .before .passes4 .ensures) ∙ c .if4 .taken)
 
 add-t13 : tie.Need-add-t13
-add-t13 c =
-    let e = first (tested c) in
-    omega (arith, ltb-false 4294967295 (a e .frames + b e .frames) (frames-fit e))
+add-t13 c = omega (arith, within (tested c))
 
 add-t4 : tie.Need-add-t4
-add-t4 c =
-    let e = tested (c .before .before) in
-    omega (arith, ltb-false 18446744073709551615 (a (first e) .clean + b (first e) .clean) (clean-fit (cleaned (counted e))))
+add-t4 c = omega (arith, within (tested (c .before .before)))
 
 add-t5 : tie.Need-add-t5
-add-t5 c =
-    let e = tested (summed c) in
-    omega (arith, ltb-false 18446744073709551615 (a (first e) .counts + b (first e) .counts) (counts-fit (counted e)))
+add-t5 c = omega (arith, within (tested (summed c)))
 
 add-t14 : tie.Need-add-t14
-add-t14 c =
-    let e = tested (summed (c .before .before)) in
-    omega (arith, ltb-false 18446744073709551615 (a (first e) .rounds + b (first e) .rounds) (rounds-fit e))
+add-t14 c = omega (arith, within (tested (summed (c .before .before))))
 
 returns-5 : tie.Need-returns-5
 returns-5 c =
