@@ -16,7 +16,8 @@ use Rattle.digits.specs.Digits.{digits, numbered}
 use Rattle.digits.proofs.Digits.{digits-short, numbered-length}
 use Rattle.figures.specs.Fraction.{Fraction, lowest}
 use Rattle.figures.specs.declared.Totals.{Totals}
-use Rattle.figure_lines.specs.Lines.{framesWord, cleanWord, countsWord, roundsWord, shareWord, meanWord, slash, sumsText, fractionText, figuresText, totalsLine, refusedLine, unreadableLine, fileLine}
+use Rattle.figure_lines.specs.Lines.{framesWord, cleanWord, countsWord, roundsWord, shareWord, meanWord, slash}
+use Rattle.figure_lines.specs.Lines.{sumsText, fractionText, figuresText, totalsLine, refusedLine, unreadableLine, fileLine}
 use Rattle.figure_lines.specs.declared.Reason.{Reason}
 use Rattle.figure_lines.specs.declared.Reason.the-variants.{Refused, Unreadable}
 

@@ -39,7 +39,8 @@ totals-joined (f ∷ fs) ys =
     ∙ sym (sums-assoc (ofFrame (f .count) (f .rounds) (f .clean)) (totalsOf fs) (totalsOf ys))
 
 -- the same of the call's answer: "Where no limit is passed", the totals of all frames, and else 14
-pub batches-joined : (xs ys : List Frame) → judged (joinRefusals (totalsOf xs) (totalsOf ys)) (sums (totalsOf xs) (totalsOf ys)) ≡ judged (joinRefusals (totalsOf xs) (totalsOf ys)) (totalsOf (xs ++ ys))
+pub batches-joined : (xs ys : List Frame)
+    → judged (joinRefusals (totalsOf xs) (totalsOf ys)) (sums (totalsOf xs) (totalsOf ys)) ≡ judged (joinRefusals (totalsOf xs) (totalsOf ys)) (totalsOf (xs ++ ys))
 batches-joined xs ys = ap (judged (joinRefusals (totalsOf xs) (totalsOf ys))) (sym (totals-joined xs ys))
 
 -- a sum passes its limit where the second number is more than what the first leaves

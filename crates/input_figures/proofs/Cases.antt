@@ -29,7 +29,8 @@ sample code =
     ∷ joined (replicate 174 (0 ∷ 0 ∷ 0x80 ∷ 0x3f ∷ []))
 
 one-clean : inputAdded nothingYet (sample 3) ≡ accepted (record { frames = 1; clean = 1; counts = 0; rounds = 0 })
-unfolding inputAdded sample joined batchFrames framesFrom totalsOf frameClean anyNan isNan checksumRight lowBits qex divide bringDown numberAfter pairNumbers valuesOf floatOf u32sFrom malformed sizeN sizeK refusalsOf pairRefusals pairsOf frameOf written decodeBy chosen chosenCount chosenFirst chosenBits chosenFrom initialWord roundWords roundsRun firstBy parity count checks rowsOfSeven nm numRows decide ofBits ofFields odd le lt eq ruleNotOfCode
+unfolding inputAdded sample joined batchFrames framesFrom totalsOf frameClean anyNan isNan checksumRight lowBits qex divide bringDown numberAfter pairNumbers valuesOf floatOf u32sFrom malformed sizeN sizeK refusalsOf pairRefusals pairsOf
+    frameOf written decodeBy chosen chosenCount chosenFirst chosenBits chosenFrom initialWord roundWords roundsRun firstBy parity count checks rowsOfSeven nm numRows decide ofBits ofFields odd le lt eq ruleNotOfCode
 one-clean = refl
 
 not-counted : (inputAdded nothingYet (replicate 11 0) ≡ refused 13) × (inputAdded nothingYet (sample 4) ≡ refused 1)

@@ -163,7 +163,10 @@ returns-2 c =
     let good = known k in
     let w = wrote k in
     let pairs = ap (λ (ns : List ℕ). pairsOf ns) (e .pre .1 .1 ∙ good .all) in
-    let same = results-are (codeOf s) (e .pre .1 .0) pairs (front (bits d) (good .bits) (w .itsBits)) (front (counts d) (good .frames) (w .itsCounts)) (front (rounds d) (good .frames) (w .itsRounds)) in
+    let same =
+    results-are (codeOf s) (e .pre .1 .0) pairs (front (bits d) (good .bits) (w .itsBits)) (front (counts d) (good .frames) (w .itsCounts))
+    (front (rounds d) (good .frames) (w .itsRounds))
+    in
     c .add-batch .ensures ∙ ap (added (e .args .total)) same ∙ added-input (e .args .total) s (e .pre .0) (good .agreed)
 
 pub add-frames-spec : {M : Type 1} → statement M
