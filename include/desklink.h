@@ -1,7 +1,7 @@
 /* desklink.h: the C interface of libdesklink.a (`rt staticlib desklink` writes it to target/staticlib).
  *
- * Answers. Every call answers one int32_t: a value or a count from 0 up, or a refusal as minus its number, -1 to -13,
- * -16 to -18 or -20. A refused call has written nothing. A call that only writes answers 0.
+ * Answers. Every call answers one int32_t: a value or a count from 0 up, or a refusal as minus its number, -1 to -18
+ * or -20. A refused call has written nothing. A call that only writes answers 0.
  *
  * Counts. A word's count is how many of the code's parity checks it leaves unsatisfied; 0 says that it is a codeword.
  * Before a frame is trusted, test that its count is 0, that none of its values is NaN (a dead aerial gives NaN
@@ -38,8 +38,8 @@
 #include <stdint.h>
 #include <xmmintrin.h>
 
-/* How the guarded calls are defined: inline in each file that includes this one, or once, by a file that says
- * otherwise. */
+/* How the guarded calls, and those over a struct, are defined: inline in each file that includes this one, or once, by
+ * a file that says otherwise. */
 #ifndef DESKLINK_GUARDED
 #define DESKLINK_GUARDED static inline
 #endif
@@ -81,6 +81,8 @@ enum desklink_refusal {
     DESKLINK_PAIR_ORDER = -11,      /* a pair starts below the end of the one before */
     DESKLINK_PAIR_PAST_END = -12,   /* a pair ends past the values */
     DESKLINK_MALFORMED = -13,       /* a program's input is malformed; no call here answers it */
+    DESKLINK_SUM_PAST_LIMIT = -14,  /* a sum of the reception figures would pass its limit */
+    DESKLINK_NO_FRAMES = -15,       /* a fraction is asked of no frames */
     DESKLINK_ERASURE_BYTE = -16,    /* a byte of a word with erasures is above 2 */
     DESKLINK_BYTE_OUT_OF_RANGE = -17, /* a soft byte is -128 */
     DESKLINK_NOT_EIGHTHS = -18,     /* a value is no soft byte's */
@@ -306,6 +308,67 @@ DESKLINK_GUARDED int32_t desklink_frame_reason(uint32_t code, uint32_t rule, flo
                                                      part, computed, work, work_len);
     desklink_callers_floats(callers);
     return answer;
+}
+
+/* Reception figures: totals of the frames of many batches. Each number may be anything its type holds; four zeros are
+ * the totals of no frames. */
+struct desklink_totals {
+    uint32_t frames;
+    uint64_t clean;  /* how many of them are clean */
+    uint64_t counts; /* the sum of their counts */
+    uint64_t rounds; /* the sum of their rounds */
+};
+
+/* Adds the frames of a batch to the totals. values and pairs: as the batch call took them; bits, counts and rounds: as
+ * it left them. (A call with groups leaves 255 in the bits of a group that is not delivered: a (174,91) frame of such a
+ * group is counted as not clean.) A code, pair or length that the batch call would refuse is refused by the same
+ * number; DESKLINK_SUM_PAST_LIMIT leaves the totals as they were. */
+int32_t desklink_totals_add_unguarded(uint32_t *frames, uint64_t *clean, uint64_t *count_sum, uint64_t *round_sum,
+                                      uint32_t code, const float *values, size_t values_len, const uint32_t *pairs,
+                                      size_t pairs_len, const uint8_t *bits, size_t bits_len, const uint16_t *counts,
+                                      size_t counts_len, const uint16_t *rounds, size_t rounds_len);
+DESKLINK_GUARDED int32_t desklink_totals_add(struct desklink_totals *totals, uint32_t code, const float *values,
+                                             size_t values_len, const uint32_t *pairs, size_t pairs_len,
+                                             const uint8_t *bits, size_t bits_len, const uint16_t *counts,
+                                             size_t counts_len, const uint16_t *rounds, size_t rounds_len)
+{
+    uint32_t callers = desklink_default_floats();
+    int32_t answer = desklink_totals_add_unguarded(&totals->frames, &totals->clean, &totals->counts, &totals->rounds,
+                                                   code, values, values_len, pairs, pairs_len, bits, bits_len, counts,
+                                                   counts_len, rounds, rounds_len);
+    desklink_callers_floats(callers);
+    return answer;
+}
+
+/* Adds totals to totals, or answers DESKLINK_SUM_PAST_LIMIT and leaves them as they were. */
+int32_t desklink_totals_join_unguarded(uint32_t *frames, uint64_t *clean, uint64_t *counts, uint64_t *rounds,
+                                       uint32_t more_frames, uint64_t more_clean, uint64_t more_counts,
+                                       uint64_t more_rounds);
+DESKLINK_GUARDED int32_t desklink_totals_join(struct desklink_totals *totals, const struct desklink_totals *more)
+{
+    return desklink_totals_join_unguarded(&totals->frames, &totals->clean, &totals->counts, &totals->rounds,
+                                          more->frames, more->clean, more->counts, more->rounds);
+}
+
+/* A fraction in lowest terms; one of zero is 0/1. */
+struct desklink_fraction {
+    uint64_t over;
+    uint64_t under;
+};
+
+/* The share of clean frames, written to fraction, or DESKLINK_NO_FRAMES. */
+int32_t desklink_clean_share_unguarded(uint32_t frames, uint64_t clean, uint64_t *over, uint64_t *under);
+DESKLINK_GUARDED int32_t desklink_clean_share(const struct desklink_totals *totals,
+                                              struct desklink_fraction *fraction)
+{
+    return desklink_clean_share_unguarded(totals->frames, totals->clean, &fraction->over, &fraction->under);
+}
+
+/* The mean count of a frame, likewise. */
+int32_t desklink_mean_count_unguarded(uint32_t frames, uint64_t counts, uint64_t *over, uint64_t *under);
+DESKLINK_GUARDED int32_t desklink_mean_count(const struct desklink_totals *totals, struct desklink_fraction *fraction)
+{
+    return desklink_mean_count_unguarded(totals->frames, totals->counts, &fraction->over, &fraction->under);
 }
 
 /* word: N bytes, each 0, 1, or 2 for an unknown bit; the unknown bits that the checks of the code (0 to 3) decide are

@@ -17,6 +17,7 @@ among them. Every call computes under the default float control word and puts th
 """
 import ctypes
 import enum
+import fractions
 import os
 import typing
 
@@ -83,6 +84,8 @@ _REASONS = {
     10: "a pair's length is not the code's N",
     11: "a pair starts below the end of the one before",
     12: "a pair ends past the values",
+    14: "a sum of the totals would pass its limit",
+    15: "a fraction is asked of no frames",
     16: "a byte of a word with erasures is above 2",
     17: "a soft byte is -128",
     18: "a value is no soft byte's",
@@ -369,3 +372,69 @@ def frame_reason(code, values, rule=Rule.DEFAULT, limit=20, scale=0.0):
         (part.value, computed.value) if reason == Reason.CHECKSUM else None,
         bytes(word),
     )
+
+
+# ---- reception figures
+
+
+class _Numbers(ctypes.Structure):
+    _fields_ = [("frames", ctypes.c_uint32), ("clean", ctypes.c_uint64), ("counts", ctypes.c_uint64), ("rounds", ctypes.c_uint64)]
+
+
+class _Fraction(ctypes.Structure):
+    _fields_ = [("over", ctypes.c_uint64), ("under", ctypes.c_uint64)]
+
+
+class Totals:
+    """Totals of the frames of many batches: frames, clean frames, the sum of their counts and the sum of their rounds."""
+
+    def __init__(self, frames=0, clean=0, counts=0, rounds=0):
+        for number, limit in ((frames, 2**32), (clean, 2**64), (counts, 2**64), (rounds, 2**64)):
+            if not 0 <= number < limit:
+                raise Refused(14)
+        self._numbers = _Numbers(frames, clean, counts, rounds)
+
+    frames = property(lambda self: self._numbers.frames, doc="How many frames.")
+    clean = property(lambda self: self._numbers.clean, doc="How many of them are clean.")
+    counts = property(lambda self: self._numbers.counts, doc="The sum of their counts.")
+    rounds = property(lambda self: self._numbers.rounds, doc="The sum of their rounds.")
+
+    def add(self, code, values, pairs, frames):
+        """Adds the frames that decode_batch gave for these values and pairs. Refused by 14, nothing is added.
+
+        A (174,91) frame of a group that is not delivered, whose bits are None, is counted as not clean.
+        """
+        k = Code(code).k if 0 <= code <= 3 else 0
+        flat = (ctypes.c_uint32 * (2 * len(pairs)))(*(number for pair in pairs for number in pair))
+        raw = b"".join(bytes([255]) * k if frame.bits is None else frame.bits for frame in frames)
+        bits = (ctypes.c_uint8 * len(raw)).from_buffer_copy(raw)
+        counts = (ctypes.c_uint16 * len(frames))(*(frame.count for frame in frames))
+        rounds = (ctypes.c_uint16 * len(frames))(*(frame.rounds for frame in frames))
+        results = (*_slice(flat), *_slice(bits), *_slice(counts), *_slice(rounds))
+        with _floats(values) as lent:
+            _answer(
+                _library.desklink_totals_add(ctypes.byref(self._numbers), ctypes.c_uint32(code), lent.pointer, lent.length, *results)
+            )
+
+    def join(self, more):
+        """Adds the totals of other frames. Refused by 14, these are as they were."""
+        _answer(_library.desklink_totals_join(ctypes.byref(self._numbers), ctypes.byref(more._numbers)))
+
+    def _figure(self, call):
+        fraction = _Fraction()
+        _answer(call(ctypes.byref(self._numbers), ctypes.byref(fraction)))
+        return fractions.Fraction(fraction.over, fraction.under)
+
+    def share(self):
+        """The share of clean frames, a fractions.Fraction; refused by 15 where there are no frames."""
+        return self._figure(_library.desklink_clean_share)
+
+    def mean(self):
+        """The mean count of a frame, likewise."""
+        return self._figure(_library.desklink_mean_count)
+
+    def __eq__(self, other):
+        return isinstance(other, Totals) and bytes(self._numbers) == bytes(other._numbers)
+
+    def __repr__(self):
+        return f"Totals(frames={self.frames}, clean={self.clean}, counts={self.counts}, rounds={self.rounds})"

@@ -1,6 +1,7 @@
 """Tests of desklink.py, which need no other package; numpy's arrays are tried where numpy is there."""
 import array
 import ctypes
+import fractions
 import random
 import unittest
 
@@ -167,6 +168,65 @@ class Others(unittest.TestCase):
     def test_pack(self):
         bits = bytes([1, 0, 1, 1, 0, 0, 0, 1, 1])
         self.assertEqual(desklink.unpack(desklink.pack(bits), 9), bits)
+
+
+class Figures(unittest.TestCase):
+    def batch(self, code, seed, frames):
+        source = random.Random(seed)
+        word, _ = word_and_message(code, seed)
+        values = array.array("f")
+        for j in range(frames):
+            values.extend(source.gauss(1.0 - 2 * bit, 0.4 * j) for bit in word)
+        if frames > 1:
+            values[code.n] = float("nan")
+        pairs = [(code.n * j, code.n) for j in range(frames)]
+        return values, pairs, desklink.decode_batch(code, values, pairs)
+
+    def test_totals_are_those_of_the_frames(self):
+        day, account = desklink.Totals(), [0, 0, 0, 0]
+        for code in CODES:
+            for frames in (0, 1, 5, 24):
+                values, pairs, given = self.batch(code, 7 + frames, frames)
+                day.add(code, values, pairs, given)
+                for frame in given:
+                    account = [a + b for a, b in zip(account, (1, frame.clean, frame.count, frame.rounds))]
+                self.assertEqual([day.frames, day.clean, day.counts, day.rounds], account)
+        self.assertEqual(day.share(), fractions.Fraction(account[1], account[0]))
+        self.assertEqual(day.mean(), fractions.Fraction(account[2], account[0]))
+        self.assertGreater(day.clean, 0)
+        self.assertGreater(day.frames, day.clean)
+
+    def test_join(self):
+        a, b = desklink.Totals(3, 2, 2**63, 9), desklink.Totals(5, 2**64 - 3, 2**63 - 1, 1)
+        one, other = desklink.Totals(3, 2, 2**63, 9), desklink.Totals(5, 2**64 - 3, 2**63 - 1, 1)
+        one.join(b)
+        other.join(a)
+        self.assertEqual((one, other), (desklink.Totals(8, 2**64 - 1, 2**64 - 1, 10),) * 2)
+        for more in (desklink.Totals(2**32 - 8), desklink.Totals(clean=1), desklink.Totals(counts=1), desklink.Totals(rounds=2**64 - 10)):
+            with self.assertRaises(Refused) as caught:
+                one.join(more)
+            self.assertEqual((caught.exception.number, one), (14, other))
+
+    def test_refusals(self):
+        values, pairs, given = self.batch(Code.FT8, 3, 2)
+        totals = desklink.Totals(2**32 - 2, 1, 2, 3)
+        for number, call in [
+            (1, lambda: totals.add(4, values, pairs, given)),
+            (7, lambda: totals.add(3, values, pairs * 13, given * 13)),
+            (8, lambda: totals.add(3, values, pairs, given[:1])),
+            (10, lambda: totals.add(3, values, [(0, 173), (174, 174)], given)),
+            (11, lambda: totals.add(3, values, [(0, 174), (0, 174)], given)),
+            (12, lambda: totals.add(3, values, [(0, 174), (175, 174)], given)),
+            (14, lambda: totals.add(3, values, pairs, given)),
+            (15, lambda: desklink.Totals().share()),
+            (15, lambda: desklink.Totals(clean=4).mean()),
+            (14, lambda: desklink.Totals(2**32)),
+        ]:
+            with self.assertRaises(Refused) as caught:
+                call()
+            self.assertEqual((caught.exception.number, totals), (number, desklink.Totals(2**32 - 2, 1, 2, 3)))
+        self.assertEqual(str(desklink.Totals(4, 3).share()), "3/4")
+        self.assertEqual(desklink.Totals(4).mean(), 0)
 
 
 class ControlWord(unittest.TestCase):

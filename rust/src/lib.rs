@@ -21,6 +21,7 @@ mod moves;
 mod refusal;
 pub mod slices;
 mod staircase;
+mod totals;
 
 pub use batch::{Batch, Code};
 pub use frames::{decode_frames, frame_reason, Explained, Frame};
@@ -28,6 +29,7 @@ pub use moves::Move;
 pub use refusal::Refusal;
 pub use slices::Reason;
 pub use staircase::{DecodeRule, Ldpc, LdpcCode};
+pub use totals::{Fraction, Totals};
 
 /// Bits of a (174,91) codeword.
 pub const N: usize = 174;

@@ -18,6 +18,8 @@ pub enum Refusal {
     PairOrder = 11,
     PairPastEnd = 12,
     Malformed = 13,
+    SumPastLimit = 14,
+    NoFrames = 15,
     ErasureByte = 16,
     ByteOutOfRange = 17,
     NotEighths = 18,
@@ -25,7 +27,7 @@ pub enum Refusal {
 }
 
 impl Refusal {
-    const ALL: [Refusal; 17] = [
+    const ALL: [Refusal; 19] = [
         Refusal::UnknownCode,
         Refusal::UnknownRule,
         Refusal::RuleNotOfCode,
@@ -39,13 +41,15 @@ impl Refusal {
         Refusal::PairOrder,
         Refusal::PairPastEnd,
         Refusal::Malformed,
+        Refusal::SumPastLimit,
+        Refusal::NoFrames,
         Refusal::ErasureByte,
         Refusal::ByteOutOfRange,
         Refusal::NotEighths,
         Refusal::GroupSizes,
     ];
 
-    /// The number, 1 to 13, 16 to 18 or 20.
+    /// The number, 1 to 18 or 20.
     ///
     /// ```
     /// assert_eq!(desklink::Refusal::MessageSlack.number(), 6);
@@ -76,6 +80,8 @@ impl fmt::Display for Refusal {
             Refusal::PairOrder => "a pair starts below the end of the one before: sort the pairs by offset, with no overlap",
             Refusal::PairPastEnd => "a pair ends past the values: pass all the values that the pairs name",
             Refusal::Malformed => "the input is malformed",
+            Refusal::SumPastLimit => "a sum of the totals would pass its limit: start new totals",
+            Refusal::NoFrames => "the totals hold no frames, so that there is no share and no mean",
             Refusal::ErasureByte => "a byte of the word with erasures is above 2: write 0 or 1 for a known bit, and 2 for an unknown one",
             Refusal::ByteOutOfRange => "a soft byte is -128: soft bytes go from -127 to 127",
             Refusal::NotEighths => "a value is no soft byte's: eight times it must be a whole number from -127 to 127, and -0.0 is none",

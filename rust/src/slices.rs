@@ -1,6 +1,6 @@
 //! The calls on plain slices, each tested and refused by the library itself. The orion-sdr shapes of the crate's root are written over these.
 use crate::floats::DefaultFloats;
-use crate::Refusal;
+use crate::{Fraction, Refusal, Totals};
 
 mod ffi {
     use super::Pair;
@@ -147,6 +147,35 @@ mod ffi {
             work: *mut f32,
             work_len: usize,
         ) -> i32;
+        pub fn desklink_totals_add_unguarded(
+            frames: *mut u32,
+            clean: *mut u64,
+            count_sum: *mut u64,
+            round_sum: *mut u64,
+            code: u32,
+            values: *const f32,
+            values_len: usize,
+            pairs: *const u32,
+            pairs_len: usize,
+            bits: *const u8,
+            bits_len: usize,
+            counts: *const u16,
+            counts_len: usize,
+            rounds: *const u16,
+            rounds_len: usize,
+        ) -> i32;
+        pub fn desklink_totals_join_unguarded(
+            frames: *mut u32,
+            clean: *mut u64,
+            counts: *mut u64,
+            rounds: *mut u64,
+            more_frames: u32,
+            more_clean: u64,
+            more_counts: u64,
+            more_rounds: u64,
+        ) -> i32;
+        pub fn desklink_clean_share_unguarded(frames: u32, clean: u64, over: *mut u64, under: *mut u64) -> i32;
+        pub fn desklink_mean_count_unguarded(frames: u32, counts: u64, over: *mut u64, under: *mut u64) -> i32;
         pub fn desklink_fill_erasures(code: u32, word: *mut u8, word_len: usize, places: *mut u16, places_len: usize) -> i32;
         pub fn desklink_values_of_bytes_unguarded(bytes: *const i8, bytes_len: usize, positive_is_one: u32, values: *mut f32, values_len: usize) -> i32;
         pub fn desklink_bytes_of_values_unguarded(values: *const f32, values_len: usize, positive_is_one: u32, bytes: *mut i8, bytes_len: usize) -> i32;
@@ -469,6 +498,72 @@ pub fn frame_reason(code: u32, rule: u32, scale: f32, limit: u16, values: &[f32]
         2 => Reason::Check(part),
         _ => Reason::Checksum { carried: part, computed },
     })
+}
+
+/// The totals with the frames of a batch: of its values and pairs, and of the bits, counts and rounds that its call left. Refused as the batch is where a
+/// code, a pair or a length does not fit, and by 14 where a sum would pass its limit; the totals are then as they were.
+pub fn totals_add(
+    totals: &mut Totals,
+    code: u32,
+    values: &[f32],
+    pairs: &[[u32; 2]],
+    bits: &[u8],
+    counts: &[u16],
+    rounds: &[u16],
+) -> Result<(), Refusal> {
+    let pairs = pairs.as_flattened();
+    let _floats = DefaultFloats::set();
+    answer(unsafe {
+        ffi::desklink_totals_add_unguarded(
+            &mut totals.frames,
+            &mut totals.clean,
+            &mut totals.counts,
+            &mut totals.rounds,
+            code,
+            values.as_ptr(),
+            values.len(),
+            pairs.as_ptr(),
+            pairs.len(),
+            bits.as_ptr(),
+            bits.len(),
+            counts.as_ptr(),
+            counts.len(),
+            rounds.as_ptr(),
+            rounds.len(),
+        )
+    })
+    .map(drop)
+}
+
+/// The totals with those of other frames, or 14 and as they were.
+pub fn totals_join(totals: &mut Totals, more: &Totals) -> Result<(), Refusal> {
+    answer(unsafe {
+        ffi::desklink_totals_join_unguarded(
+            &mut totals.frames,
+            &mut totals.clean,
+            &mut totals.counts,
+            &mut totals.rounds,
+            more.frames,
+            more.clean,
+            more.counts,
+            more.rounds,
+        )
+    })
+    .map(drop)
+}
+
+/// The share of clean frames.
+pub fn clean_share(totals: &Totals) -> Result<Fraction, Refusal> {
+    let (mut over, mut under) = (0, 0);
+    answer(unsafe { ffi::desklink_clean_share_unguarded(totals.frames, totals.clean, &mut over, &mut under) })?;
+    Ok(Fraction { over, under })
+}
+
+/// The mean count of a frame.
+pub fn mean_count(totals: &Totals) -> Result<Fraction, Refusal> {
+    let (mut over, mut under) = (0, 0);
+    answer(unsafe { ffi::desklink_mean_count_unguarded(totals.frames, totals.counts, &mut over, &mut under) })?;
+    Ok(Fraction { over, under })
 }
 
 /// Sets the unknown bits (2) of a recorded word of N bytes that the checks of code 0 to 3 decide, one after another, and lists their positions at

@@ -140,6 +140,19 @@ fn soft_bytes() {
     words().into_iter().for_each(|word| assert_eq!(under(word, convert), expected));
 }
 
+/// A value is compared with itself to see whether it is NaN, which a signalling one would stop under an unmasked exception.
+#[test]
+fn totals() {
+    let mut values = vec![1.0; 2 * 174];
+    values[200] = f32::from_bits(0x7F80_0001);
+    let add = || {
+        let mut totals = desklink::Totals::default();
+        let said = slices::totals_add(&mut totals, 3, &values, &[[0, 174], [174, 174]], &[0; 182], &[0; 2], &[0; 2]);
+        (said, totals.frames, totals.clean)
+    };
+    words().into_iter().for_each(|word| assert_eq!(under(word, add), (Ok(()), 2, 1)));
+}
+
 /// A refused call restores the word too.
 #[test]
 fn refused_calls() {

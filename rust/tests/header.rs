@@ -3,10 +3,11 @@
 const HEADER: &str = include_str!("../../include/desklink.h");
 
 /// The tests that compare, by file.
-const COMPARISONS: [(&str, &str); 4] = [
+const COMPARISONS: [(&str, &str); 5] = [
     ("compare.rs", include_str!("compare.rs")),
     ("groups.rs", include_str!("groups.rs")),
     ("clean.rs", include_str!("clean.rs")),
+    ("figures.rs", include_str!("figures.rs")),
     ("refusals.rs", include_str!("refusals.rs")),
 ];
 

@@ -359,10 +359,10 @@ fn eighths() {
 
 #[test]
 fn every_refusal_has_its_number_and_a_sentence() {
-    for number in (1..=13).chain(16..=18).chain([20]) {
+    for number in (1..=18).chain([20]) {
         let refusal = Refusal::from_number(number).unwrap();
         assert_eq!(refusal.number(), number);
         assert!(refusal.to_string().len() > 15);
     }
-    assert_eq!((Refusal::from_number(0), Refusal::from_number(14)), (None, None));
+    assert_eq!((Refusal::from_number(0), Refusal::from_number(21)), (None, None));
 }

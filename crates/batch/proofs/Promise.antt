@@ -112,10 +112,10 @@ module _ (c : Call) (ok : Accepted c) where
   abbrev b : Batch
   b = c .handed
 
-  agreed : verdict (refusals b) ≡ nothing
+  pub agreed : verdict (refusals b) ≡ nothing
   agreed = sym (c .answered .says) ∙ ok
 
-  left-is : c .left ≡ written b
+  pub left-is : c .left ≡ written b
   left-is = accepted-left b (c .left) (subst (λ (o : Outcome Unit). Answered b o (c .left)) ok (c .answered))
 
   frame-size : (j : ℕ) → j < held c → length (valuesAt c j) ≡ sizeN (b .code)
@@ -132,11 +132,11 @@ module _ (c : Call) (ok : Accepted c) where
   unfolding valuesAt
   column f j h = map-at f (frames b) j [] 0 (simp length-map h)
 
-  count-is : (j : ℕ) → j < held c → countAt c j ≡ chosenCount (decodeAt c j) (b .limit)
+  pub count-is : (j : ℕ) → j < held c → countAt c j ≡ chosenCount (decodeAt c j) (b .limit)
   unfolding written
   count-is j h = ap (λ (l : Lent). getD (l .counts) j 0) left-is ∙ column (frameCount b) j h
 
-  rounds-are : (j : ℕ) → j < held c → roundsAt c j ≡ roundsRun (decodeAt c j) (b .limit)
+  pub rounds-are : (j : ℕ) → j < held c → roundsAt c j ≡ roundsRun (decodeAt c j) (b .limit)
   unfolding written
   rounds-are j h = ap (λ (l : Lent). getD (l .rounds) j 0) left-is ∙ column (frameRounds b) j h
 
@@ -144,14 +144,14 @@ module _ (c : Call) (ok : Accepted c) where
   unfolding written
   first-is j h = ap (λ (l : Lent). getD (l .firsts) j 0) left-is ∙ column (frameFirst b) j h
 
-  front-size : (j : ℕ) → j < held c → length (frameBits b (valuesAt c j)) ≡ sizeK (b .code)
+  pub front-size : (j : ℕ) → j < held c → length (frameBits b (valuesAt c j)) ≡ sizeK (b .code)
   unfolding chosenBits
   front-size j h =
       let p = chosen-proper (decodeAt c j) (b .limit) in
       let n : length (decodeAt c j .llr) ≡ length (valuesAt c j) = llr-is (b .code) (reading c) (valuesAt c j) in
       length-take-le (sizeK (b .code)) (chosen (decodeAt c j) (b .limit)) (omega (arith, p .long, n, frame-size j h, size-small (b .code) .front))
 
-  bits-are : (j : ℕ) → j < held c → bitsAt c j ≡ chosenBits (decodeAt c j) (b .limit) (sizeK (b .code))
+  pub bits-are : (j : ℕ) → j < held c → bitsAt c j ≡ chosenBits (decodeAt c j) (b .limit) (sizeK (b .code))
   unfolding written valuesAt
   bits-are j h =
       let f = frameBits b in

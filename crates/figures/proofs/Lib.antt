@@ -1,3 +1,4 @@
 pub mod Euclid
 pub mod Sums
+pub mod Limits
 pub mod Cases

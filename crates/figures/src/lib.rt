@@ -1,10 +1,7 @@
 // Reception figures: totals over many batches, and fractions of them in lowest terms.
 use refusal::Refusal;
 ghost use mathlib.Core.Path.{_≡_};
-ghost use mathlib.Core.Bool.{cond};
-ghost use mathlib.Core.List.{[], _∷_};
-ghost use lib.Dec.{eqb};
-ghost use Rattle.refusal.specs.Outcome.{judged, _when_};
+ghost use Rattle.refusal.specs.Outcome.{judged};
 ghost use Rattle.figures.specs.Fraction.{gcd, lowest};
 ghost use Rattle.figures.specs.Totals.{summedOf, figureOf, passed, joinRefusals, sums, ofFrame, fractionRefusals};
 

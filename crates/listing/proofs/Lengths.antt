@@ -1,5 +1,5 @@
 -- The lengths of the listing's texts, as sums over their parts, and their bounds: a frame has at most 384 bits, and there are at most 24 frames. Assumes nothing.
-use mathlib.Core.Path.{_≡_, refl}
+use mathlib.Core.Path.{_≡_}
 use mathlib.Core.Bool.{Bool, true, false, cond}
 use mathlib.Core.List.{List, []}
 use Prim.Native.Nat.{ℕ, zero, suc, _+_, _*_, _≤_}

@@ -1,32 +1,27 @@
 -- The frames' lines, a turn at a time; the listing of what is handed on is the listing of all. Assumes nothing.
-use mathlib.Core.Path.{_≡_, refl, sym, ap, _∙_}
-use mathlib.Core.Bool.{Bool, true, false, cond}
+use mathlib.Core.Path.{_≡_, ap}
+use mathlib.Core.Bool.{Bool, false}
 use mathlib.Core.List.{List, [], _++_}
-use Prim.Native.Nat.{ℕ, zero, suc, _+_, _-_, _*_, _≤_, _<_}
-use native.Mathlib.Nat.{suc-mul, mul-le-mul}
+use Prim.Native.Nat.{ℕ, suc, _+_, _-_, _*_, _≤_, _<_}
 use native.Mathlib.Numerals.{add-one}
 use native.Mathlib.Omega.{arith}
-use borrow.Author.Tests.{lt-ltb, ltb-true}
-use lib.Dec.{ltb, lit≤}
 use lib.Ieee.{Float}
 use lib.ListN.{length, getD, take, drop, length-append, length-take}
-use Rattle.refusal.specs.Outcome.{Outcome, accepted, refused, judged}
+use Rattle.refusal.specs.Outcome.{refused}
 use Rattle.refusal.proofs.Judged.{verdict, nothing, judged-accepted, judged-refused}
-use Rattle.text.specs.Text.{refusalLine, printed}
+use Rattle.text.specs.Text.{refusalLine}
 use Rattle.batch.specs.Codes.{sizeK}
 use Rattle.batch.specs.Pairs.{pairsOf}
-use Rattle.batch.specs.Calls.{Lent, lent, Batch, batch, roomOf, refusalsOf, refusals, frames, written, Answered}
-use Rattle.batch.specs.declared.Room.{Room}
+use Rattle.batch.specs.Calls.{Lent, lent, Batch, batch, refusals, frames, written}
 use Rattle.batch.proofs.Sizes.{size-small}
-use Rattle.batch.proofs.Whole.{accepted-left}
 use Rattle.clean_frames.specs.CleanFrames.{bitsOf, cleanOf}
 use Rattle.clean_frames.proofs.FrameAt.{bits-at}
-use Rattle.batch_input.specs.Input.{codeOf, ruleOf, limitOf, scaleOf, pairCount, pairNumbers, valuesOf, malformed}
-use Rattle.batch_input.specs.Handed.{batchIn, memoryFor, inputRefusals}
-use Rattle.batch_input.proofs.Handed.{same-verdict, accepted-few, few-all, pairs-many, room-for}
+use Rattle.batch_input.specs.Input.{codeOf, ruleOf, limitOf, scaleOf, pairNumbers, valuesOf, malformed}
+use Rattle.batch_input.specs.Handed.{batchIn}
+use Rattle.batch_input.proofs.Handed.{accepted-few, pairs-many}
 use Rattle.listing.specs.Lines.{headLine, frameLine, lineAt, linesFrom}
 use Rattle.listing.proofs.Lengths.{frame-short, head-short, lines-short}
-use Rattle.listing.specs.Listing.{framesText, listingOf, held}
+use Rattle.listing.specs.Listing.{framesText, listingOf}
 
 -- ---- a turn
 
@@ -71,23 +66,7 @@ frames-short b l few =
       lines-short (lineAt (b .code) (frames b) l) (line-short (b .code) (frames b) l) 0 (length (b .pairs)),
     )
 
--- ---- the frames that have room
-
-few-held : (b : Bool) (n : ℕ) → ltb n 25 ≡ b → cond b n 0 ≤ 24
-few-held true n e = omega (arith, ltb-true n 25 e)
-few-held false n e = lit≤ tt
-
-pub held-few : (n : ℕ) → held n ≤ 24
-held-few n = few-held (ltb n 25) n refl
-
-pub bits-fit : (n code : ℕ) → n ≤ 24 → n * sizeK code ≤ 9216
-bits-fit n code h = mul-le-mul h (size-small code .bits)
-
-pub room-right : (code n b c r f w : ℕ) → b ≡ n * sizeK code → c ≡ n → r ≡ n → f ≡ n → w ≡ 3070
-    → _≡_ {A = Room} (record { bits = b; counts = c; rounds = r; firsts = f; work = w }) (roomOf (memoryFor code n))
-room-right code n b c r f w eb ec er ef ew = cc (room-for code n)
-
--- ---- the listing of what is handed on
+-- ---- the listing of an input that is not malformed
 
 module _ (s : List ℕ) (good : malformed s ≡ false) where
   pub refused-line : (k : ℕ) → verdict (refusals (batchIn s)) ≡ refused k → refusalLine k ≡ listingOf s
@@ -101,29 +80,9 @@ module _ (s : List ℕ) (good : malformed s ≡ false) where
   pub accepted-short : verdict (refusals (batchIn s)) ≡ nothing → length (listingOf s) ≤ 4096
   accepted-short v = rw (← accepted-text v) (frames-short (batchIn s) (written (batchIn s)) (omega (arith, pairs-many s, accepted-few s v)))
 
-  -- what is handed on: the values, 50 numbers of the pairs, outputs with room for the frames held
-  module _ (memory : Lent) (size : roomOf memory ≡ roomOf (memoryFor (codeOf s) (held (pairCount s)))) where
-    abbrev pub handed : Batch
-    handed = batch (codeOf s) (ruleOf s) (limitOf s) (scaleOf s) (valuesOf s) (pairsOf (take 50 (pairNumbers s))) memory
-
-    exact : pairCount s < 25 → roomOf memory ≡ roomOf (batchIn s .memory)
-    exact few = size ∙ ap (λ (n : ℕ). roomOf (memoryFor (codeOf s) n)) (held-all few)
-      where
-        held-all : pairCount s < 25 → held (pairCount s) ≡ pairCount s
-        held-all few = rw (lt-ltb (pairCount s) 25 few)
-
-    pub handed-verdict : verdict (refusals handed) ≡ verdict (refusals (batchIn s))
-    handed-verdict = same-verdict s (roomOf memory) exact
-
-    -- where it is accepted, its pairs are all pairs, and few
-    pub handed-pairs : verdict (refusals handed) ≡ nothing → length (handed .pairs) ≡ pairCount s
-    handed-pairs v = ap (λ (ns : List ℕ). length (pairsOf ns)) (few-all s (accepted-few s (sym handed-verdict ∙ v))) ∙ pairs-many s
-
-    -- an accepted call's lines are the listing, whatever it left in the work area
-    pub handed-text : (left : Lent) → Answered handed nothing left → framesText (batch (codeOf s) (ruleOf s) (limitOf s) (scaleOf s) (valuesOf s) (pairsOf (take 50 (pairNumbers s))) (lent [] [] [] [] []))
-        (lent (left .bits) (left .counts) (left .rounds) (left .firsts) []) ≡ listingOf s
-    unfolding framesText written
-    handed-text left a =
-        let v = sym handed-verdict ∙ sym (a .says) in
-        let e = accepted-left handed left a in
-        rw (e, few-all s (accepted-few s v)) (accepted-text v)
+  -- the lines of what the call was handed and left are the listing, whatever is in the work area
+  pub fronts-text : verdict (refusals (batchIn s)) ≡ nothing → {values : List Float} {pairs bits counts rounds firsts : List ℕ} → values ≡ valuesOf s → pairs ≡ pairNumbers s
+      → bits ≡ written (batchIn s) .bits → counts ≡ written (batchIn s) .counts → rounds ≡ written (batchIn s) .rounds → firsts ≡ written (batchIn s) .firsts
+      → framesText (batch (codeOf s) (ruleOf s) (limitOf s) (scaleOf s) values (pairsOf pairs) (lent [] [] [] [] [])) (lent bits counts rounds firsts []) ≡ listingOf s
+  unfolding framesText
+  fronts-text v ev ep eb ec er ef = rw (ev, ep, eb, ec, er, ef) (accepted-text v)

@@ -1,8 +1,6 @@
 -- What the program prints for an input (document 01, "The program").
-use mathlib.Core.Bool.{cond}
 use mathlib.Core.List.{List, _++_}
 use Prim.Native.Nat.{ℕ}
-use lib.Dec.{ltb}
 use lib.ListN.{length}
 use Rattle.refusal.specs.Outcome.{judged}
 use Rattle.text.specs.Text.{printed}
@@ -19,7 +17,3 @@ framesText b l =
 -- the lines of the batch that the input hands over, or "only one line, as `refused 13`, with the number that applies"
 unfoldable pub listingOf : List ℕ → List ℕ
 listingOf s = printed (judged (inputRefusals s) (framesText (batchIn s) (written (batchIn s))))
-
--- how many frames have room in the outputs: of more than 24 none, and the batch refuses them as it refuses all
-abbrev pub held : ℕ → ℕ
-held n = cond (ltb n 25) n 0

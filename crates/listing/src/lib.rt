@@ -1,19 +1,17 @@
 // The listing of a batch: the program's input read, and what is printed for it written into a lent buffer.
-use belief::WORK;
-use refusal::Status;
+use decoded_input::Decoded;
 ghost use mathlib.Core.Path.{_≡_};
 ghost use mathlib.Core.List.{[]};
 ghost use mathlib.Core.Bool.{false};
 ghost use Prim.Native.Nat.{_+_, _*_, _≤_};
 ghost use lib.ListN.{length, take};
-ghost use Rattle.refusal.specs.Answers.{statusOf};
 ghost use Rattle.text.specs.Written.{Written};
 ghost use Rattle.batch.specs.Codes.{sizeN, sizeK};
 ghost use Rattle.batch.specs.Pairs.{pairsOf, framesOf, AllWithin};
-ghost use Rattle.batch.specs.Calls.{lent, batch, Answered};
+ghost use Rattle.batch.specs.Calls.{lent, batch};
 ghost use Rattle.batch_input.specs.Input.{codeOf, ruleOf, limitOf, scaleOf, pairCount, pairNumbers, valuesOf, malformed};
 ghost use Rattle.listing.specs.Lines.{headLine, cleanOrOpen, firstField, frameLine, lineAt, linesFrom};
-ghost use Rattle.listing.specs.Listing.{framesText, listingOf, held};
+ghost use Rattle.listing.specs.Listing.{framesText, listingOf};
 
 // ---- lines
 
@@ -119,62 +117,6 @@ fn frame_lines(
 
 // ---- the listing
 
-// Room for the bits of 24 frames, and for a number a frame: each ensures its length alone.
-
-fn bits_room() -> [u8; 9216]
-    ensures { λ r. ⌜ 9216 ≡ length r ⌝ }
-{
-    [0; 9216]
-}
-
-fn numbers_room() -> [u16; 24]
-    ensures { λ r. ⌜ 24 ≡ length r ⌝ }
-{
-    [0; 24]
-}
-
-// The number of frames that have room in the outputs: none where there are too many.
-fn frames_held(frames: usize) -> usize
-    ensures { λ r. ⌜ r ≡ held frames ⌝ }
-{
-    if frames < 25 { frames } else { 0 }
-}
-
-// The batch call, with the numbers of the header.
-fn decode_input(
-    input: &[u8],
-    values: &[f32],
-    pairs: &[u32],
-    bits: &mut [u8],
-    counts: &mut [u16],
-    rounds: &mut [u16],
-    firsts: &mut [u16],
-    work: &mut [f32],
-) -> Status
-    requires { ⌜ 12 ≤ length (now input) ⌝ }
-    ensures { λ r. ⌜ Answered
-        (batch (codeOf (now (input .entry))) (ruleOf (now (input .entry))) (limitOf (now (input .entry))) (scaleOf (now (input .entry)))
-        (now (values .entry)) (pairsOf (now (pairs .entry)))
-        (lent (now (bits .entry)) (now (counts .entry)) (now (rounds .entry)) (now (firsts .entry)) (now (work .entry))))
-        (statusOf r)
-        (lent (now (bits .exit)) (now (counts .exit)) (now (rounds .exit)) (now (firsts .exit)) (now (work .exit))) ⌝ }
-{
-    let head = batch_input::read_header(input);
-    batch::decode_batch(
-        head.code,
-        head.rule,
-        head.limit,
-        head.scale,
-        values,
-        pairs,
-        bits,
-        counts,
-        rounds,
-        firsts,
-        work,
-    )
-}
-
 // The head line and the frames' lines of a batch that was accepted: so many pairs name frames within the values.
 fn write_frames(
     input: &[u8],
@@ -226,35 +168,31 @@ fn list_frames(input: &[u8], values: &[f32], pairs: &[u32], out: &mut [u8]) -> u
     ensures { λ r. ⌜ Written (now (out .entry)) 0 (listingOf (now (input .entry))) (now (out .exit)) r ⌝ }
     ensures { λ r. ⌜ r ≤ 4096 ⌝ }
 {
-    let n = frames_held(batch_input::pair_count(input));
-    let size = n * batch::message_bits(input[0] as u32);
-    let mut bits = bits_room();
-    let mut counts = numbers_room();
-    let mut rounds = numbers_room();
-    let mut firsts = numbers_room();
-    let mut work = [0.0f32; WORK];
-    if let Status::Refused(r) = decode_input(
+    let mut bits = decoded_input::bits_room();
+    let mut counts = decoded_input::numbers_room();
+    let mut rounds = decoded_input::numbers_room();
+    let mut firsts = decoded_input::numbers_room();
+    match decoded_input::decode_fronts(
         input,
         values,
         pairs,
-        &mut bits[..size],
-        &mut counts[..n],
-        &mut rounds[..n],
-        &mut firsts[..n],
-        &mut work,
+        &mut bits,
+        &mut counts,
+        &mut rounds,
+        &mut firsts,
     ) {
-        return text::refusal_line(out, 0, refusal::number(r) as u16);
+        Decoded::Refused(r) => text::refusal_line(out, 0, refusal::number(r) as u16),
+        Decoded::Frames(n, size) => write_frames(
+            input,
+            values,
+            pairs,
+            &bits[..size],
+            &counts[..n],
+            &rounds[..n],
+            &firsts[..n],
+            out,
+        ),
     }
-    write_frames(
-        input,
-        values,
-        pairs,
-        &bits[..size],
-        &counts[..n],
-        &rounds[..n],
-        &firsts[..n],
-        out,
-    )
 }
 
 // The listing of an input that is not malformed.

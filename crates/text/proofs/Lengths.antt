@@ -20,7 +20,7 @@ one-or-none : (b : Bool) (x : ℕ) → length (cond b [] (x ∷ [])) ≤ 1
 one-or-none true x = lit≤ tt
 one-or-none false x = lit≤ tt
 
-leading-short : (p n : ℕ) → length (leading p n) ≤ 1
+pub leading-short : (p n : ℕ) → length (leading p n) ≤ 1
 unfolding leading
 leading-short p n = one-or-none (ltb n p) _
 

@@ -6,9 +6,6 @@ use Rattle.figures.specs.Fraction.{gcd, lowest}
 use Rattle.figures.proofs.Euclid.{gcd-pos, some-of-ne}
 use Rattle.figures.proofs.fraction.Statement.{statement}
 use Rattle.figures.proofs.fraction.Tie as tie
-use Rattle.figures.proofs.fraction.Reads as reads
-use Rattle.figures.proofs.fraction.Lts as lts
-use Rattle.figures.proofs.gcd.Reads as gcd-reads
 
 returns : tie.Need-returns
 returns c = simp (eq-eqb _ _ (c .if1 .taken))

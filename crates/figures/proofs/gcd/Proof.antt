@@ -5,8 +5,6 @@ use Rattle.figures.specs.Fraction.{gcd}
 use Rattle.figures.proofs.Euclid.{gcd-zero, gcd-step, some-of-ne}
 use Rattle.figures.proofs.gcd.Statement.{statement}
 use Rattle.figures.proofs.gcd.Tie as tie
-use Rattle.figures.proofs.gcd.Reads as reads
-use Rattle.figures.proofs.gcd.Lts as lts
 
 abbrev Inv-loop : tie.InvT-loop
 Inv-loop a b x₀ y₀ x y = gcd x y ≡ gcd a b

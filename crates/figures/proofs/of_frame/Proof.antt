@@ -4,8 +4,6 @@ use mathlib.Core.Bool.{cond}
 use mathlib.Core.Logic.{⊎-elim}
 use Rattle.figures.proofs.of_frame.Statement.{statement}
 use Rattle.figures.proofs.of_frame.Tie as tie
-use Rattle.figures.proofs.of_frame.Reads as reads
-use Rattle.figures.proofs.of_frame.Lts as lts
 
 returns : tie.Need-returns
 returns c =

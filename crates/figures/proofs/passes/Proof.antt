@@ -6,8 +6,6 @@ use borrow.Author.Tests.{lt-ltb}
 use Rattle.figures.proofs.Sums.{past-limit}
 use Rattle.figures.proofs.passes.Statement.{statement}
 use Rattle.figures.proofs.passes.Tie as tie
-use Rattle.figures.proofs.passes.Reads as reads
-use Rattle.figures.proofs.passes.Lts as lts
 
 returns : tie.Need-returns
 returns c =

@@ -1,5 +1,4 @@
 -- `listing::frame_line` meets its contract: the fields are written one after the other, and after each there is room for the rest. Assumes nothing.
-use mathlib.Core.Path.{_≡_}
 use Prim.Native.Nat.{ℕ, _+_, _≤_}
 use native.Mathlib.Omega.{arith}
 use lib.ListN.{length}

@@ -1,8 +1,8 @@
--- `listing::decode_input` meets its contract: the batch call with the numbers of the header. Assumes nothing.
+-- `decoded_input::decode_input` meets its contract: the batch call with the numbers of the header.
 use mathlib.Core.Path.{sym}
 use borrow.Author.Needs.{needs}
-use Rattle.listing.proofs.decode_input.Statement.{statement}
-use Rattle.listing.proofs.decode_input.Tie as tie
+use Rattle.decoded_input.proofs.decode_input.Statement.{statement}
+use Rattle.decoded_input.proofs.decode_input.Tie as tie
 
 read-header-requires : tie.Need-read-header-requires
 read-header-requires c κs = search needs

@@ -1,7 +1,7 @@
--- `listing::frames_held` meets its contract. The two cases are the two branches. Assumes nothing.
+-- `decoded_input::frames_held` meets its contract. The two cases are the two branches.
 use borrow.Author.Tests.{lt-ltb, le-ltb}
-use Rattle.listing.proofs.frames_held.Statement.{statement}
-use Rattle.listing.proofs.frames_held.Tie as tie
+use Rattle.decoded_input.proofs.frames_held.Statement.{statement}
+use Rattle.decoded_input.proofs.frames_held.Tie as tie
 
 returns : tie.Need-returns
 returns c = simp (lt-ltb _ _ (c .if1 .taken))

@@ -1,0 +1,50 @@
+-- `batchfigures::main` is safe and ends. Nothing has to hold from turn to turn, so the invariant says nothing; the measure is the arguments that are left.
+use Prim.Native.Nat.{_-_}
+use borrow.Author.Needs.{needs}
+use Rattle.batchfigures.proofs.main.Statement.{statement}
+use Rattle.batchfigures.proofs.main.Tie as tie
+
+abbrev Inv-loop : tie.InvT-loop
+Inv-loop total₀ n i₀ total i = Unit {0}
+
+abbrev μ-loop : tie.MeasureT-loop
+μ-loop total₀ n i₀ total i = n - i
+
+arg-count-requires : tie.Need-arg-count-requires Inv-loop μ-loop
+arg-count-requires c κs = search needs
+
+loop-holds : tie.Need-loop-holds Inv-loop μ-loop
+loop-holds c = search needs
+
+count-file-requires : tie.Need-count-file-requires Inv-loop μ-loop
+count-file-requires c κs = search needs
+
+add-i : tie.Need-add-i Inv-loop μ-loop
+add-i c = search needs
+
+loop-less : tie.Need-loop-less Inv-loop μ-loop
+loop-less c = search needs
+
+loop-again : tie.Need-loop-again Inv-loop μ-loop
+loop-again c = search needs
+
+print-totals-requires : tie.Need-print-totals-requires Inv-loop μ-loop
+print-totals-requires c κs = search needs
+
+returns : tie.Need-returns Inv-loop μ-loop
+returns c = search needs
+
+pub main-spec : {M : Type 1} → statement M
+main-spec =
+    tie.close
+    (tie.spec
+    Inv-loop
+    μ-loop
+    arg-count-requires
+    loop-holds
+    count-file-requires
+    add-i
+    loop-less
+    loop-again
+    print-totals-requires
+    returns)
