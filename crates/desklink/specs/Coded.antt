@@ -8,6 +8,7 @@ use Rattle.refusal.specs.Outcome.{Outcome, accepted, refused}
 use Rattle.tanner.specs.Checks.{Syndrome}
 use Rattle.belief.specs.Chosen.{Told}
 use Rattle.batch.specs.Calls.{placeOf}
+use Rattle.cycles.specs.Calls.{Report}
 
 -- the signed number, of an accepted call the part `of` its value
 abbrev pub codedBy : {A : Type 0} → (A → ℕ) → Outcome A → ℤ
@@ -43,3 +44,8 @@ pub record Decodes (outcome : Outcome Told) (n : ℤ) (rounds first : Lent) : Ty
   pub itsCount : n ≡ codedBy (λ t. t .count) outcome
   pub itsRounds : rounds .after ≡ toldIn (λ t. t .rounds) outcome (rounds .before)
   pub itsFirst : first .after ≡ toldIn (λ t. placeOf (t .first)) outcome (first .before)
+
+-- a list of cycles: how many, and the relaxed picks (N14)
+pub record Lists (outcome : Outcome Report) (n : ℤ) (relaxed : Lent) : Type 0 where
+  pub itsCycles : n ≡ codedBy (λ r. r .cycles) outcome
+  pub itsRelaxed : relaxed .after ≡ toldIn (λ r. r .relaxed) outcome (relaxed .before)
