@@ -6,7 +6,8 @@
     python3 tools/code_tables.py list CODE NAME     one list of antt, as crates/staircase/proofs has it
     python3 tools/code_tables.py write FILE..       puts each constant and list that a file has already in again, as it is printed
     python3 tools/code_tables.py check              says which constant or list of the repository has other numbers
-    python3 tools/code_tables.py code CODE          N, K, M, the generator's last state, how many relaxed picks and cycles
+    python3 tools/code_tables.py code CODE          N, K, M, the generator's last state, how many relaxed picks and cycles, and
+                                                    how many message columns a row has
 
 A CODE is a name of CODES below, a NAME one of NAMES. For a fourth code add a line to CODES; docs/FOURTH_CODE.md has the other steps.
 The rules stand here once more, after document 01 ("The staircase codes"). What is printed is proved right by the crates that hold
@@ -72,6 +73,7 @@ class Tables:
         checks = [taps[i] + ([k] if i == 0 else [k + i, k + i - 1]) for i in range(m)]
         self.checkBits = [p for check in checks for p in check]
         self.checkStarts = ends(checks)
+        self.widths = {len(row) for row in taps}
         edges = [[] for _ in range(n)]
         for e, p in enumerate(self.checkBits):
             edges[p].append(e)
@@ -199,6 +201,7 @@ def main(words):
     elif words[:1] == ["code"] and len(words) == 2:
         t = Tables(words[1])
         print("N %d, K %d, M %d, last state 0x%x, relaxed picks %d, cycles %d" % (t.n, t.k, t.m, t.state, t.relaxed, len(t.cycles)))
+        print("message columns of a row: %s" % " or ".join(map(str, sorted(t.widths))))
     elif words[:1] in (["constant"], ["list"]) and len(words) == 3:
         show = constant if words[0] == "constant" else antt_list
         sys.stdout.write(show(words[1], words[2], getattr(Tables(words[1]), words[2])))
