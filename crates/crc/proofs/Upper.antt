@@ -1,19 +1,19 @@
 -- The register in the upper bits of a 32-bit word goes with the definition's, turn by turn: 18 places up, shift and XOR are the same and the top bit is the
 -- word's; inside a byte nothing is taken in. Assumes nothing.
-use mathlib.Core.Path.{_≡_, sym, ap, ap₂, _∙_}
+use mathlib.Core.Path.{_≡_, refl, sym, ap, ap₂, _∙_}
 use mathlib.Core.List.{List}
 use Prim.Native.Nat.{ℕ, zero, suc, _+_, _-_, _*_, _/_, _%_, _^_, _<_}
-use native.Mathlib.Nat.{mod-lt, mod-eq-of-lt, mul-div-mul-right}
+use native.Mathlib.Nat.{mod-lt, mod-eq-of-lt, mul-div-mul-right, add-mul-mod-self-right}
 use native.Mathlib.Omega.{arith}
 use lib.Arith.{lt-of-le-ne}
-use lib.Bits.{bitXor, xor-mod}
+use lib.Bits.{bitXor, xor-mod, xor-shr}
 use lib.ListN.{getD}
-use lib.Pow.{pow-pos}
+use lib.Pow.{pow-pos, field}
 use Rattle.crc.specs.Register.{turn, register, crc14}
 use Rattle.crc.specs.Upper.{upper, turnUp, turnsUp, takenIn}
 use Rattle.crc.proofs.Fed.{fed-start, fed-inside}
 use Rattle.crc.proofs.Turn.{lowTurn, lowTurn-low}
-use Rattle.crc.proofs.Xor.{xor-shl}
+use Rattle.crc.proofs.Xor.{xor-right, xor-middle, xor-shl, xor-times}
 
 low-up : (q : ℕ) → q < 2 ^ 14 → turnUp (q * 2 ^ 18) ≡ lowTurn q * 2 ^ 18
 unfolding turnUp lowTurn turn
@@ -54,6 +54,43 @@ up-byte m k byte (suc j) h =
     ap turnUp (up-byte m k byte j (omega arith))
     ∙ upper-turn (register m (8 * k + suc j))
     ∙ rw (next, fed-inside m (8 * k + suc j) (register m (8 * k + suc j)) inside)
+
+-- ---- two turns at once
+
+module _ (r : ℕ) (fits : r < 2 ^ 32) where
+  top-lt : r / 2 ^ 31 < 2
+  top-lt = omega arith
+
+  -- what the top bit leaves
+  twice : (t : ℕ) → t < 2 → bitXor (t * 0x9D5C_0000 * 2 % 2 ^ 32) (t * 0x9D5C_0000) ≡ t * 0xA7E4_0000
+  twice zero h = refl
+  twice (suc zero) h = sym (xor-shl 0xEAE 0x2757 18)
+  twice (suc (suc t)) h = absurd (omega arith)
+
+  carried : (t : ℕ) → t < 2 → t * 0x9D5C_0000 / 2 ^ 31 ≡ t
+  carried zero h = refl
+  carried (suc zero) h = refl
+  carried (suc (suc t)) h = absurd (omega arith)
+
+  pub two-turns : bitXor (bitXor (r * 4 % 2 ^ 32) (r / 2 ^ 31 * 0xA7E4_0000)) (r / 2 ^ 30 % 2 * 0x9D5C_0000) ≡ turnUp (turnUp r)
+  unfolding turnUp
+  two-turns =
+      let t = r / 2 ^ 31 in
+      let u = r / 2 ^ 30 % 2 in
+      let a = r * 2 % 2 ^ 32 in
+      let p = t * 0x9D5C_0000 in
+      let whole : r * 4 ≡ a * 2 + r * 2 / 2 ^ 32 * 2 * 2 ^ 32 = omega arith in
+      let shifted : a * 2 % 2 ^ 32 ≡ r * 4 % 2 ^ 32 = sym (ap (λ (n : ℕ). n % 2 ^ 32) whole ∙ add-mul-mod-self-right (a * 2) (r * 2 / 2 ^ 32 * 2) (2 ^ 32)) in
+      let next : a / 2 ^ 31 ≡ u = field (r * 2) 1 31 ∙ ap (λ (n : ℕ). n % 2) (mul-div-mul-right r (2 ^ 30) (pow-pos 1)) in
+      let up : bitXor a p * 2 % 2 ^ 32 ≡ bitXor (r * 4 % 2 ^ 32) (p * 2 % 2 ^ 32)
+      = ap (λ (n : ℕ). n % 2 ^ 32) (xor-shl a p 1) ∙ xor-mod (a * 2) (p * 2) 32 ∙ ap (λ (n : ℕ). bitXor n (p * 2 % 2 ^ 32)) shifted in
+      let top : bitXor a p / 2 ^ 31 ≡ bitXor u t = xor-shr a p 31 ∙ ap₂ bitXor next (carried t top-lt) in
+      sym
+      (ap₂ (λ (x y : ℕ). bitXor x (y * 0x9D5C_0000)) up top
+      ∙ ap (bitXor (bitXor (r * 4 % 2 ^ 32) (p * 2 % 2 ^ 32))) (xor-times u t 0x9D5C_0000 (omega arith) top-lt)
+      ∙ xor-middle (r * 4 % 2 ^ 32) (p * 2 % 2 ^ 32) (u * 0x9D5C_0000) p
+      ∙ ap (bitXor (bitXor (r * 4 % 2 ^ 32) (u * 0x9D5C_0000))) (twice t top-lt)
+      ∙ xor-right (r * 4 % 2 ^ 32) (u * 0x9D5C_0000) (t * 0xA7E4_0000))
 
 -- ---- the checksum of n bits
 

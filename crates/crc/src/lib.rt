@@ -38,6 +38,18 @@ fn step_up(r: u32) -> u32
     (r << 1) ^ (top * POLY_UP)
 }
 
+// The polynomial one place up, what passes bit 31 being dropped, with the polynomial XORed in: what the top bit leaves after two turns.
+const POLY_TWICE: u32 = 0xA7E4_0000;
+
+// Two turns at once: what is XORed in goes by the two top bits.
+fn step_two(r: u32) -> u32
+    ensures { λ q. ⌜ q ≡ turnUp (turnUp r) ⌝ }
+{
+    let top = r >> 31;
+    let next = (r >> 30) % 2;
+    ((r << 2) ^ (top * POLY_TWICE)) ^ (next * POLY_UP)
+}
+
 // A whole byte taken in.
 fn take_in(r: u32, byte: u8) -> u32
     ensures { λ q. ⌜ q ≡ takenIn r byte ⌝ }
@@ -49,10 +61,7 @@ fn take_in(r: u32, byte: u8) -> u32
 fn turn_byte(r: u32) -> u32
     ensures { λ q. ⌜ q ≡ turnsUp 8 r ⌝ }
 {
-    let two = step_up(step_up(r));
-    let four = step_up(step_up(two));
-    let six = step_up(step_up(four));
-    step_up(step_up(six))
+    step_two(step_two(step_two(step_two(r))))
 }
 
 // The register after n bytes.
