@@ -52,6 +52,7 @@ extern "C" {
 #define DESKLINK_WORK 3070
 #define DESKLINK_MAX_PAIRS 24
 #define DESKLINK_NO_CHECK 65535
+#define DESKLINK_MAX_CYCLES 41
 
 enum desklink_code { DESKLINK_N512R12 = 0, DESKLINK_N576R23 = 1, DESKLINK_N512R34 = 2, DESKLINK_FT8 = 3 };
 
@@ -75,7 +76,7 @@ enum desklink_refusal {
     DESKLINK_WORD_TOO_SHORT = -5,   /* a staircase word to be counted has fewer than N bytes */
     DESKLINK_MESSAGE_SLACK = -6,    /* a (174,91) message has a set bit among the low five of byte 11 */
     DESKLINK_TOO_MANY_PAIRS = -7,   /* more than 24 pairs */
-    DESKLINK_OUTPUT_LENGTH = -8,    /* an output is not exactly its length */
+    DESKLINK_OUTPUT_LENGTH = -8,    /* an output is not exactly its length; a list of cycles has not the room */
     DESKLINK_WORK_TOO_SHORT = -9,   /* the work area has fewer than DESKLINK_WORK floats */
     DESKLINK_PAIR_LENGTH = -10,     /* a pair's length is not N */
     DESKLINK_PAIR_ORDER = -11,      /* a pair starts below the end of the one before */
@@ -375,6 +376,13 @@ DESKLINK_GUARDED int32_t desklink_mean_count(const struct desklink_totals *total
  * set. places: N numbers, of which the first ones are written: the positions that were set, in the order in which they
  * were. How many were set. */
 int32_t desklink_fill_erasures(uint32_t code, uint8_t *word, size_t word_len, uint16_t *places, size_t places_len);
+
+/* The cycles of length four of code 0 to 2: two columns, positions of a word, that lie in the same two rows, its
+ * checks. places gets four numbers a cycle, from the front: lower column, higher column, lower row, higher row, in
+ * that order ascending; what lies past the last cycle is as it was. places_len counts the numbers: 4 *
+ * DESKLINK_MAX_CYCLES are enough for every code. relaxed, which is not null, gets how many picks of the code's
+ * construction were relaxed. How many cycles there are. */
+int32_t desklink_list_cycles(uint32_t code, uint16_t *places, size_t places_len, uint16_t *relaxed);
 
 /* Soft bytes, -127 to 127 in eighths, and values, as many of one as of the other; where positive_is_one is not 0, the
  * bytes are of a model that counts positive as 1. Either call undoes the other. */

@@ -40,6 +40,7 @@ VERSION = _library.desklink_version().decode()
 WORK = 3070
 MAX_PAIRS = 24
 NO_CHECK = 65535
+MAX_CYCLES = 41
 
 
 class Code(enum.IntEnum):
@@ -282,6 +283,15 @@ def fill_erasures(code, word):
     places = (ctypes.c_uint16 * (Code(code).n if 0 <= code <= 3 else 0))()
     found = _answer(_library.desklink_fill_erasures(ctypes.c_uint32(code), *_slice(filled), *_slice(places)))
     return bytes(filled), list(places[:found])
+
+
+def list_cycles(code):
+    """The cycles of length four of code 0 to 2, each (lower column, higher column, lower row, higher row), ascending, and how many picks of the
+    code's construction were relaxed."""
+    places = (ctypes.c_uint16 * (4 * MAX_CYCLES))()
+    relaxed = ctypes.c_uint16(0)
+    found = _answer(_library.desklink_list_cycles(ctypes.c_uint32(code), *_slice(places), ctypes.byref(relaxed)))
+    return [tuple(places[4 * i : 4 * i + 4]) for i in range(found)], relaxed.value
 
 
 # ---- soft values in eighths

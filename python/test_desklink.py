@@ -71,6 +71,7 @@ class Decoding(unittest.TestCase):
             (4, lambda: desklink.frame_reason(0, values)),
             (4, lambda: desklink.encode(0, bytes(255))),
             (5, lambda: desklink.count(1, bytes(575))),
+            (1, lambda: desklink.list_cycles(3)),
             (16, lambda: desklink.fill_erasures(3, bytes([3]) + bytes(173))),
             (17, lambda: desklink.values_of_bytes(array.array("b", [-128]))),
             (18, lambda: desklink.bytes_of_values(array.array("f", [0.1]))),
@@ -158,6 +159,16 @@ class Others(unittest.TestCase):
             for at in (0, code.k, code.n - 1):
                 holes[at] = 2
             self.assertEqual(desklink.fill_erasures(code, holes)[0], word)
+
+    def test_cycles(self):
+        for code, expected in ((Code.N512R12, 21), (Code.N576R23, 36), (Code.N512R34, 41)):
+            cycles, relaxed = desklink.list_cycles(code)
+            self.assertEqual((len(cycles), relaxed, cycles), (expected, 0, sorted(set(cycles))))
+            for lower, higher, low, high in cycles:
+                # the words of either bit alone leave both rows unsatisfied, and the word of both bits leaves neither
+                alone = [desklink.count(code, bytes(p == column for p in range(code.n)))[0] for column in (lower, higher)]
+                both = desklink.count(code, bytes(p in (lower, higher) for p in range(code.n)))[0]
+                self.assertEqual((both, low < high), (sum(alone) - 4, True))
 
     def test_soft_bytes(self):
         data = array.array("b", range(-127, 128))

@@ -37,8 +37,8 @@ mod compared {
     const SAMPLE_SECONDS: f64 = 0.002;
 
     /// The most that a row's ratio may be. A quarter where rounds are run; half for encoding and counting by a staircase
-    /// code, and a little more for a frame of one that needs no round; elsewhere the Rust's own time, but for N6's
-    /// multiplication in the checksum's chain and a call of 4 ns.
+    /// code, and a little more for a frame of one that needs no round; elsewhere the Rust's own time, but for a call of
+    /// 4 ns.
     fn bar(name: &str) -> f64 {
         let staircase = name.starts_with("N5");
         if name.contains("rounds") || name.contains("never") {
@@ -47,7 +47,7 @@ mod compared {
             if staircase { 0.6 } else { 1.0 }
         } else if staircase {
             0.5
-        } else if name.starts_with("ft8_crc14") || name.starts_with("ft8_extract_crc") {
+        } else if name.starts_with("ft8_extract_crc") {
             f64::INFINITY
         } else {
             1.0

@@ -177,6 +177,7 @@ mod ffi {
         pub fn desklink_clean_share_unguarded(frames: u32, clean: u64, over: *mut u64, under: *mut u64) -> i32;
         pub fn desklink_mean_count_unguarded(frames: u32, counts: u64, over: *mut u64, under: *mut u64) -> i32;
         pub fn desklink_fill_erasures(code: u32, word: *mut u8, word_len: usize, places: *mut u16, places_len: usize) -> i32;
+        pub fn desklink_list_cycles(code: u32, places: *mut u16, places_len: usize, relaxed: *mut u16) -> i32;
         pub fn desklink_values_of_bytes_unguarded(bytes: *const i8, bytes_len: usize, positive_is_one: u32, values: *mut f32, values_len: usize) -> i32;
         pub fn desklink_bytes_of_values_unguarded(values: *const f32, values_len: usize, positive_is_one: u32, bytes: *mut i8, bytes_len: usize) -> i32;
     }
@@ -190,6 +191,9 @@ pub const MOST_PAIRS: usize = 24;
 
 /// What a batch writes as the first check of a frame whose checks are all satisfied.
 pub const NO_CHECK: u16 = 65_535;
+
+/// The most cycles of length four that a staircase code has.
+pub const MOST_CYCLES: usize = 41;
 
 /// What is told of a word: how many parity checks it leaves unsatisfied, 0 for a codeword, and the first of them.
 #[derive(Debug, Clone, Copy, PartialEq, Eq)]
@@ -209,6 +213,15 @@ pub struct Decoded {
     pub rounds: u16,
     /// The lowest check that the chosen word leaves unsatisfied, or `None` where the count is 0.
     pub first: Option<u16>,
+}
+
+/// What is told of a code's cycles of length four beside the list.
+#[derive(Debug, Clone, Copy, PartialEq, Eq)]
+pub struct Listed {
+    /// How many cycles there are.
+    pub cycles: u16,
+    /// How many picks of the code's construction were relaxed.
+    pub relaxed: u16,
 }
 
 /// The check that a number of the library names.
@@ -578,6 +591,23 @@ pub fn mean_count(totals: &Totals) -> Result<Fraction, Refusal> {
 /// ```
 pub fn fill_erasures(code: u32, word: &mut [u8], places: &mut [u16]) -> Result<u16, Refusal> {
     answer(unsafe { ffi::desklink_fill_erasures(code, word.as_mut_ptr(), word.len(), places.as_mut_ptr(), places.len()) })
+}
+
+/// Lists the cycles of length four of code 0 to 2 at the front of `places`: lower column, higher column, lower row, higher row, ascending in that
+/// order. Refused where there are fewer places than cycles; [`MOST_CYCLES`] are enough for every code.
+///
+/// ```
+/// let mut places = [[0; 4]; desklink::slices::MOST_CYCLES];
+/// let listed = desklink::slices::list_cycles(0, &mut places).unwrap();
+/// assert_eq!((listed.cycles, listed.relaxed), (21, 0));
+/// // Columns 12 and 268 lie in rows 12 and 13.
+/// assert_eq!(places[0], [12, 268, 12, 13]);
+/// ```
+pub fn list_cycles(code: u32, places: &mut [[u16; 4]]) -> Result<Listed, Refusal> {
+    let mut relaxed = 0;
+    let places = places.as_flattened_mut();
+    let cycles = answer(unsafe { ffi::desklink_list_cycles(code, places.as_mut_ptr(), places.len(), &mut relaxed) })?;
+    Ok(Listed { cycles, relaxed })
 }
 
 /// Soft bytes in eighths, -127 to 127, to as many values, negated for a model that counts positive as 1.

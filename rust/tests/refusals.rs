@@ -335,6 +335,20 @@ fn erasures() {
 }
 
 #[test]
+fn cycles() {
+    for code in [0, 1, 2, 3, 4, 256, u32::MAX] {
+        let most = [21, 36, 41].get(code as usize).copied().unwrap_or(0);
+        for room in [0, 1, 20, 21, 22, 35, 36, 37, 40, 41, 42, 300] {
+            let mut places = vec![[7; 4]; room];
+            let expected = first(&[(code > 2, Refusal::UnknownCode), (room < most, Refusal::OutputLength)]);
+            if expect(slices::list_cycles(code, &mut places), expected) {
+                assert!(places.iter().all(|place| *place == [7; 4]));
+            }
+        }
+    }
+}
+
+#[test]
 fn eighths() {
     let all: Vec<i8> = (-127..=127).collect();
     for positive_is_one in [false, true] {

@@ -73,5 +73,6 @@ fn encoders_and_counters() {
         let mut packed = [0; 22];
         slices::ldpc_encode(&[0; 12], &mut packed).unwrap();
         slices::ldpc_count_errors(&[1; 174]).unwrap();
+        slices::list_cycles(1, &mut [[0; 4]; slices::MOST_CYCLES]).unwrap();
     });
 }

@@ -2,6 +2,7 @@ pub mod Xor
 pub mod Turn
 pub mod Division
 pub mod Fed
+pub mod Upper
 pub mod Agreement
 pub mod Places
 pub mod Cases

@@ -4,3 +4,4 @@ pub mod Block
 pub mod Calls
 pub mod Cases
 pub mod Bytes
+pub mod Upper

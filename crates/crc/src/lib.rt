@@ -8,7 +8,8 @@ ghost use Prim.Native.Nat.{_*_, _/_, _^_, _≤_, _<_};
 ghost use lib.ListN.{length, take, drop};
 ghost use Rattle.refusal.specs.Outcome.{judged, kept};
 ghost use Rattle.refusal.specs.Answers.{answerOf, statusOf};
-ghost use Rattle.crc.specs.Register.{turn, fed, crc14};
+ghost use Rattle.crc.specs.Register.{turn, register, crc14};
+ghost use Rattle.crc.specs.Upper.{upper, turnUp, turnsUp, takenIn};
 ghost use Rattle.crc.specs.Block.{block, carried};
 ghost use Rattle.crc.specs.Bytes.{laid, stored};
 ghost use Rattle.crc.specs.Calls.{bytesFor, crc14Refusals, addRefusals, extractRefusals};
@@ -25,16 +26,77 @@ pub fn step(r: u16) -> u16
     (r << 1) ^ (top * POLY)
 }
 
-// The register with the byte of bit i taken in, where that bit starts a byte.
-fn feed(message: &[u8], i: usize, r: u16) -> u16
-    requires { ⌜ i / 8 < length (now message) ⌝ }
-    ensures { λ q. ⌜ q ≡ fed (now (message .entry)) i r ⌝ }
+// ---- the register in the upper 14 bits of a u32, whose top bit is then the word's: a turn is shift, product and XOR
+
+const POLY_UP: u32 = 0x9D5C_0000;
+
+// One turn.
+fn step_up(r: u32) -> u32
+    ensures { λ q. ⌜ q ≡ turnUp r ⌝ }
 {
-    if i % 8 == 0 {
-        r ^ ((message[i / 8] as u16) << 6)
-    } else {
-        r
+    let top = r >> 31;
+    (r << 1) ^ (top * POLY_UP)
+}
+
+// The polynomial one place up, what passes bit 31 being dropped, with the polynomial XORed in: what the top bit leaves after two turns.
+const POLY_TWICE: u32 = 0xA7E4_0000;
+
+// Two turns at once: what is XORed in goes by the two top bits.
+fn step_two(r: u32) -> u32
+    ensures { λ q. ⌜ q ≡ turnUp (turnUp r) ⌝ }
+{
+    let top = r >> 31;
+    let next = (r >> 30) % 2;
+    ((r << 2) ^ (top * POLY_TWICE)) ^ (next * POLY_UP)
+}
+
+// A whole byte taken in.
+fn take_in(r: u32, byte: u8) -> u32
+    ensures { λ q. ⌜ q ≡ takenIn r byte ⌝ }
+{
+    r ^ ((byte as u32) << 24)
+}
+
+// The turns of a byte's eight bits.
+fn turn_byte(r: u32) -> u32
+    ensures { λ q. ⌜ q ≡ turnsUp 8 r ⌝ }
+{
+    step_two(step_two(step_two(step_two(r))))
+}
+
+// The register after n bytes.
+fn whole_bytes(message: &[u8], n: usize) -> u32
+    requires { ⌜ n ≤ length (now message) ⌝ }
+    ensures { λ q. ⌜ q ≡ upper (register (now (message .entry)) (8 * n)) ⌝ }
+{
+    let mut r: u32 = 0;
+    let mut k = 0;
+    while k < n {
+        let byte = message[k];
+        r = turn_byte(take_in(r, byte));
+        k += 1;
     }
+    r
+}
+
+// The register after the first n bits of one more byte.
+fn last_bits(byte: u8, n: usize, r: u32) -> u32
+    ensures { λ q. ⌜ q ≡ turnsUp n (takenIn r byte) ⌝ }
+{
+    let mut q = take_in(r, byte);
+    let mut j = 0;
+    while j < n {
+        q = step_up(q);
+        j += 1;
+    }
+    q
+}
+
+// The register's 14 bits.
+fn lowered(r: u32) -> u16
+    ensures { λ q. ⌜ q ≡ r / 2 ^ 18 ⌝ }
+{
+    (r >> 18) as u16
 }
 
 // The checksum of the first num_bits bits.
@@ -42,13 +104,14 @@ fn checksum_of(message: &[u8], num_bits: usize) -> u16
     requires { ⌜ bytesFor «num_bits» ≤ length (now message) ⌝ }
     ensures { λ r. ⌜ r ≡ crc14 (now (message .entry)) «num_bits» ⌝ }
 {
-    let mut r: u16 = 0;
-    let mut i = 0;
-    while i < num_bits {
-        r = step(feed(message, i, r));
-        i += 1;
+    let n = num_bits / 8;
+    let rest = num_bits % 8;
+    let r = whole_bytes(message, n);
+    if rest == 0 {
+        return lowered(r);
     }
-    r % 0x4000
+    let byte = message[n];
+    lowered(last_bits(byte, rest, r))
 }
 
 // How many bytes hold num_bits bits; no sum here passes the largest usize.

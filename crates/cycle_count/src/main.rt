@@ -2,17 +2,17 @@
 use cycles::Listed;
 use libc::STDOUT_FILENO;
 
-fn wider(n: u16) -> u64 {
+fn wider(n: u32) -> u64 {
     n as u64
 }
 
 // The line of one code.
-fn print_line(code: u32, cycles: u16, relaxed: u16) {
+fn print_line(code: u32, cycles: u32, relaxed: u16) {
     io::print_decimal(STDOUT_FILENO, code as u64);
     io::write_all(STDOUT_FILENO, b" ");
     io::print_decimal(STDOUT_FILENO, wider(cycles));
     io::write_all(STDOUT_FILENO, b" ");
-    io::print_decimal(STDOUT_FILENO, wider(relaxed));
+    io::print_decimal(STDOUT_FILENO, wider(relaxed as u32));
     io::write_all(STDOUT_FILENO, b"\n");
 }
 

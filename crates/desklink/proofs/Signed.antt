@@ -7,9 +7,13 @@ use mir.Syntax.{w32}
 use mir.Val.{toZ, ofZ, SFits}
 use mir.ValLaws.{toZ-pos, toZ-ofZ}
 
--- a number of 16 bits as a signed one of 32
+-- a number of 31 bits as a signed one of 32
+pub long-pos : (v : ℕ) → v < 2 ^ 31 → toZ w32 v ≡ pos v
+long-pos v small = toZ-pos w32 v small
+
+-- one of 16 bits
 pub short-pos : (v : ℕ) → v < 2 ^ 16 → toZ w32 v ≡ pos v
-short-pos v small = toZ-pos w32 v (omega (arith, small))
+short-pos v small = long-pos v (omega (arith, small))
 
 minus-fits : (n : ℕ) → n < 2 ^ 16 → SFits w32 (negℤ (pos n))
 minus-fits zero small = record { sfits = omega arith }

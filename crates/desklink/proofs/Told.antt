@@ -1,10 +1,12 @@
 -- The calls of the decoders, as C sees them, from the calls beneath and the numbers that tell their answers. Assumes nothing.
 use mathlib.Core.Path.{_≡_, subst, ap, _∙_}
-use mathlib.Core.List.{List}
-use Prim.Native.Nat.{ℕ}
+use mathlib.Core.Bool.{Bool, true, false, cond}
+use mathlib.Core.List.{List, [], _∷_}
+use Prim.Native.Nat.{ℕ, _<_}
+use native.Mathlib.Omega.{arith}
 use lib.Ieee.{Float}
 use lib.IntN.{ℤ}
-use Rattle.refusal.specs.Outcome.{Outcome, judged}
+use Rattle.refusal.specs.Outcome.{Outcome, refused, Condition, judged}
 use Rattle.tanner.specs.Checks.{Syndrome}
 use Rattle.belief.specs.Chosen.{Told}
 use Rattle.decoders.specs.Calls as decoders
@@ -12,7 +14,8 @@ use Rattle.batch.specs.Calls as batch
 use Rattle.reason.specs.declared.Reason.{Reason}
 use Rattle.reason.specs.Calls as reason
 use Rattle.groups.specs.Groups as groups
-use Rattle.desklink.specs.Coded.{codedUnit, Lent, Counts, Decodes, Explains}
+use Rattle.cycles.specs.Calls.{Report}
+use Rattle.desklink.specs.Coded.{codedUnit, toldIn, Lent, Counts, Decodes, Explains, Lists}
 use Rattle.desklink.specs.Calls.{DecodeCall, BatchCall, GroupsCall, ReasonCall}
 
 -- z is what was stored, and n what is read back of it
@@ -20,6 +23,19 @@ use Rattle.desklink.specs.Calls.{DecodeCall, BatchCall, GroupsCall, Reas
 pub count-told : {answer outcome : Outcome Syndrome} {z n : ℤ} {first : Lent} → answer ≡ outcome → Counts answer z first → n ≡ z → Counts outcome n first
 count-told {answer} {outcome} {z} {n} {first} same c read =
     subst (λ (o : Outcome Syndrome). Counts o n first) same (record { itsCount = read ∙ c .itsCount; itsFirst = c .itsFirst })
+
+pub list-told : {answer outcome : Outcome Report} {z n : ℤ} {relaxed : Lent} → answer ≡ outcome → Lists answer z relaxed → n ≡ z → Lists outcome n relaxed
+list-told {answer} {outcome} {z} {n} {relaxed} same l read =
+    subst (λ (o : Outcome Report). Lists o n relaxed) same (record { itsCycles = read ∙ l .itsCycles; itsRelaxed = l .itsRelaxed })
+
+-- an accepted call tells few cycles, a refused one none
+pub told-few : (cs : List Condition) (r : Report) (most : ℕ) → r .cycles < most → toldIn (λ (q : Report). q .cycles) (judged cs r) 0 < most
+told-few [] r most h = h
+told-few (c ∷ cs) r most h = by (c .holds) (told-few cs r most h)
+  where
+    by : (b : Bool) → toldIn (λ (q : Report). q .cycles) (judged cs r) 0 < most → toldIn (λ (q : Report). q .cycles) (cond b (refused (c .number)) (judged cs r)) 0 < most
+    by true rest = omega arith
+    by false rest = rest
 
 pub decode-told : (s : decoders.Single) {answer : Outcome Told} {bits : List ℕ} {work : List Float} {z n : ℤ} {rounds first : Lent} → decoders.Answered s answer bits work → Decodes answer z rounds first → n ≡ z → DecodeCall s n rounds first bits work
 decode-told s {answer} {bits} {work} {z} {n} {rounds} {first} a d read = record {

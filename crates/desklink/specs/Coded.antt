@@ -10,6 +10,7 @@ use Rattle.belief.specs.Chosen.{Told}
 use Rattle.batch.specs.Calls.{placeOf}
 use Rattle.reason.specs.declared.Reason.{Reason}
 use Rattle.reason.specs.declared.Reason.the-variants.{Nan, Check, Checksum, Clean}
+use Rattle.cycles.specs.Calls.{Report}
 
 -- the signed number, of an accepted call the part `of` its value
 abbrev pub codedBy : {A : Type 0} → (A → ℕ) → Outcome A → ℤ
@@ -70,3 +71,8 @@ pub record Explains (outcome : Outcome Reason) (n : ℤ) (part computed : Lent) 
   pub itsKind : n ≡ codedBy kindOf outcome
   pub itsPart : part .after ≡ toldIn partOf outcome (part .before)
   pub itsComputed : computed .after ≡ toldIn computedOf outcome (computed .before)
+
+-- a list of cycles: how many, and the relaxed picks (N14)
+pub record Lists (outcome : Outcome Report) (n : ℤ) (relaxed : Lent) : Type 0 where
+  pub itsCycles : n ≡ codedBy (λ r. r .cycles) outcome
+  pub itsRelaxed : relaxed .after ≡ toldIn (λ r. r .relaxed) outcome (relaxed .before)

@@ -1,6 +1,7 @@
 // The C interface: each call on numbers and slices, its answer one signed number. What more a call tells goes through the references lent for it.
 mod totals;
 
+use cycles::Listed;
 use decoders::Decoding;
 use reason::Explained;
 use reason::Reason;
@@ -11,6 +12,7 @@ use refusal::Status;
 use tanner::Counting;
 ghost use mathlib.Core.Path.{_≡_};
 ghost use mathlib.Core.Bool.{not};
+ghost use Prim.Native.Nat.{_<_};
 ghost use lib.Dec.{eqb};
 ghost use lib.IntN.{pos, negℤ};
 ghost use lib.ListN.{length};
@@ -33,9 +35,10 @@ ghost use Rattle.records.specs.Fields as records·fields;
 ghost use Rattle.eighths.specs.Calls.{bytesRefusals, valuesRefusals, valuesOf, bytesOf};
 ghost use Rattle.erasure.specs.Filling.{filledWord, filledPlaces, listed};
 ghost use Rattle.erasure.specs.Calls.{checksBy, erasureRefusals};
+ghost use Rattle.cycles.specs.Calls.{Report, listedOf, cycleRefusals, reportBy, writtenBy};
 ghost use Rattle.clean_frames.specs.Calls.{frameRefusals, cleanNumber};
 ghost use Rattle.reason.specs.Calls as reason·calls;
-ghost use Rattle.desklink.specs.Coded.{coded, codedUnit, lent, Counts, Decodes, kindOf, partOf, computedOf, Explains};
+ghost use Rattle.desklink.specs.Coded.{coded, codedUnit, lent, toldIn, Counts, Decodes, kindOf, partOf, computedOf, Explains, Lists};
 ghost use Rattle.desklink.specs.Calls.{DecodeCall, BatchCall, GroupsCall, ReasonCall};
 
 // ---- answers as numbers
@@ -160,6 +163,20 @@ fn reason_code(answer: Explained, part: &mut u16, computed: &mut u16) -> i32
             value_code(kind_of(why))
         }
         Explained::Refused(r) => refusal_code(r),
+    }
+}
+
+// How many cycles, which fits; the relaxed picks are written.
+fn listed_code(answer: Listed, relaxed: &mut u16) -> i32
+    requires { ⌜ toldIn (λ (r : Report). r .cycles) (listedOf answer) 0 < 2147483648 ⌝ }
+    ensures { λ n. ⌜ Lists (listedOf answer) n (lent (now (relaxed .entry)) (now (relaxed .exit))) ⌝ }
+{
+    match answer {
+        Listed::Found(n, k) => {
+            *relaxed = k;
+            n as i32
+        }
+        Listed::Refused(r) => refusal_code(r),
     }
 }
 
@@ -494,6 +511,17 @@ pub extern "C" fn desklink_fill_erasures(code: u32, word: &mut [u8], places: &mu
         (listed (filledPlaces (checksBy code) (now (word .entry))) (now (places .entry))) ⌝ }
 {
     answer_code(erasure::fill_erasures(code, word, places))
+}
+
+// ---- the short cycles of a staircase code
+
+#[no_mangle]
+pub extern "C" fn desklink_list_cycles(code: u32, places: &mut [u16], relaxed: &mut u16) -> i32
+    ensures { λ n. ⌜ Lists (judged (cycleRefusals code (now (places .entry))) (reportBy code)) n (lent (now (relaxed .entry)) (now (relaxed .exit))) ⌝ }
+    ensures { λ _. ⌜ now (places .exit)
+        ≡ kept (cycleRefusals code (now (places .entry))) (now (places .entry)) (writtenBy code (now (places .entry))) ⌝ }
+{
+    listed_code(cycles::list_cycles(code, places), relaxed)
 }
 
 // ---- soft values in eighths: any number but 0 says that positive counts as 1

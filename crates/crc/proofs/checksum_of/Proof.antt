@@ -1,61 +1,53 @@
--- `crc::checksum_of` meets its contract. The invariant: r is the register after the first i bits.
-use mathlib.Core.Path.{_≡_, sym, ap, _∙_}
-use Prim.Native.Nat.{ℕ, _-_, _%_, _^_, _≤_}
-use native.Mathlib.Numerals.{add-one}
+-- `crc::checksum_of` meets its contract: whole bytes, and then the bits of one more. Assumes nothing.
+use mathlib.Core.Path.{ap, _∙_}
+use Prim.Native.Nat.{ℕ, _/_, _%_, _^_}
 use native.Mathlib.Omega.{arith}
-use Rattle.crc.specs.Register.{turn, fed, register, crc14}
+use lib.ListN.{getD}
+use Rattle.crc.specs.Upper.{turnsUp, takenIn}
+use Rattle.crc.proofs.Upper.{lowered-whole, lowered-rest}
 use borrow.Author.Needs.{needs}
 use Rattle.crc.proofs.checksum_of.Statement.{statement}
 use Rattle.crc.proofs.checksum_of.Tie as tie
 
-abbrev Inv-loop : tie.InvT-loop
-Inv-loop message num-bits r₀ i₀ r i = (i ≤ num-bits) × (r ≡ register message i)
+whole-bytes-requires : tie.Need-whole-bytes-requires
+whole-bytes-requires c κs = search needs
 
-abbrev μ-loop : tie.MeasureT-loop
-μ-loop message num-bits r₀ i₀ r i = num-bits - i
+lowered-requires : tie.Need-lowered-requires
+lowered-requires c κs = search needs
 
-loop-holds : tie.Need-loop-holds Inv-loop μ-loop
-unfolding register
-loop-holds c = search needs
-
-feed-requires : tie.Need-feed-requires Inv-loop μ-loop
-feed-requires c κs = search needs
-
-step-requires : tie.Need-step-requires Inv-loop μ-loop
-step-requires c κs = search needs
-
-add-i : tie.Need-add-i Inv-loop μ-loop
-add-i c = search needs
-
-loop-less : tie.Need-loop-less Inv-loop μ-loop
-loop-less c = search needs
-
-loop-again : tie.Need-loop-again Inv-loop μ-loop
-unfolding register
-loop-again c =
-    let i = c .before .before .before .loop .i in (
-      search needs,
-      c .step .ensures
-          ∙ ap turn (c .before .feed .ensures ∙ ap (fed _ i) (c .before .before .before .loop .inv .1))
-          ∙ ap (register _) (sym (add-one i)),
-    )
-
-returns : tie.Need-returns Inv-loop μ-loop
-unfolding crc14
+returns : tie.Need-returns
 returns c =
-    let all : c .before .loop .i ≡ c .before .before .before .args .num-bits = omega arith in
-    ap (λ (r : ℕ). r % 2 ^ 14) (c .before .loop .inv .1 ∙ ap (register _) all)
+    let d = c .before .before in
+    c .lowered .ensures ∙ ap (λ (r : ℕ). r / 2 ^ 18) (d .whole-bytes .ensures) ∙ lowered-whole _ _ (c .before .if1 .taken)
+
+shared-slice-read-byte : tie.Need-shared-slice-read-byte
+shared-slice-read-byte c = search needs
+
+last-bits-requires : tie.Need-last-bits-requires
+last-bits-requires c κs = search needs
+
+lowered-requires-2 : tie.Need-lowered-requires-2
+lowered-requires-2 c κs = search needs
+
+returns-2 : tie.Need-returns-2
+returns-2 c =
+    let e = c .before .before .before in
+    let d = e .before in
+    let a = d .before .before .args in
+    let n = a .num-bits in
+    c .lowered2 .ensures
+    ∙ ap (λ (r : ℕ). r / 2 ^ 18) (c .before .last-bits .ensures)
+    ∙ ap (λ (r : ℕ). turnsUp (n % 8) (takenIn r (getD (a .message .now) (n / 8) 0)) / 2 ^ 18) (d .whole-bytes .ensures)
+    ∙ lowered-rest (a .message .now) n (e .if1 .left) (omega (arith, d .before .shared-slice-known .given (n / 8)))
 
 pub checksum-of-spec : {M : Type 1} → statement M
 checksum-of-spec =
     tie.close
     (tie.spec
-    Inv-loop
-    μ-loop
-    loop-holds
-    feed-requires
-    step-requires
-    add-i
-    loop-less
-    loop-again
-    returns)
+    whole-bytes-requires
+    lowered-requires
+    returns
+    shared-slice-read-byte
+    last-bits-requires
+    lowered-requires-2
+    returns-2)
