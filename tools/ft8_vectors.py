@@ -3,7 +3,7 @@
 
 Reads the messages of ft8_messages.txt beside this file. FOLDER/stdin gets one line of 215 bytes a message: the 77 source bits,
 the 14 checksum bits and the 83 parity bits that ft8code prints, and the message, filled with spaces to 37 characters.
-FOLDER/stdout gets the first two fields of each line."""
+FOLDER/stdout gets the first three fields of each line."""
 import pathlib
 import re
 import subprocess
@@ -22,5 +22,5 @@ messages = pathlib.Path(__file__).with_name("ft8_messages.txt").read_text().spli
 vectors = [(vector(m), m) for m in messages]
 folder = pathlib.Path(sys.argv[1])
 (folder / "stdin").write_text("".join(" ".join(v) + " " + m.ljust(37) + "\n" for v, m in vectors))
-(folder / "stdout").write_text("".join(" ".join(v[:2]) + "\n" for v, m in vectors))
+(folder / "stdout").write_text("".join(" ".join(v) + "\n" for v, m in vectors))
 print(len(vectors), "vectors,", len({v[0] for v, m in vectors}), "different")

@@ -1,107 +1,110 @@
 // Replays published FT8 vectors, made by `ft8code` of Debian's package wsjtx with tools/ft8_vectors.py: each line of the file stdin
-// has the 77 source bits, the 14 checksum bits, the 83 parity bits and the message. The program packs the 77 bits, appends the
-// checksum, and prints the payload's bits out of the block and the checksum read back from it: the line's first two fields.
+// has the 77 source bits, the 14 checksum bits, the 83 parity bits and the message. The program packs the 77 bits alone, appends the
+// checksum, reads it back, encodes, and prints the payload, the checksum read back and the parity: the line's first three fields.
 use libc::STDOUT_FILENO;
 use refusal::Answer;
 use refusal::Status;
-ghost use mathlib.Core.Path.{_≡_};
-ghost use Prim.Native.Nat.{_≤_, _<_};
-ghost use lib.ListN.{length};
-
-fn print_bit(set: bool) {
-    if set {
-        io::write_all(STDOUT_FILENO, b"1");
-    } else {
-        io::write_all(STDOUT_FILENO, b"0");
-    }
-}
-
-// One more bit behind a byte's low seven.
-fn push(byte: u8, digit: u8) -> u8 {
-    if digit == b'1' {
-        byte % 128 * 2 + 1
-    } else {
-        byte % 128 * 2
-    }
-}
-
-// The byte of the eight digits of the line from `start` on; past the 77th, zeros.
-fn packed_byte(line: &[u8], start: usize) -> u8
-    requires { ⌜ 77 ≤ length (now line) ⌝ }
-    requires { ⌜ start < 128 ⌝ }
-{
-    let mut byte: u8 = 0;
-    for i in 0..8 {
-        if start + i < 77 {
-            byte = push(byte, line[start + i]);
-        } else {
-            byte = push(byte, b'0');
-        }
-    }
-    byte
-}
 
 // The payload's ten bytes of the line's first 77 digits.
-fn pack(line: &[u8], payload: &mut [u8])
-    requires { ⌜ 77 ≤ length (now line) ⌝ }
-    requires { ⌜ length (now payload) ≡ 10 ⌝ }
-    ensures { λ _. ⌜ length (now (payload .exit)) ≡ 10 ⌝ }
-{
-    let mut i = 0;
-    while i < 10 {
-        payload[i] = packed_byte(line, 8 * i);
-        i += 1;
-    }
-}
-
-// The low bits of a byte, as many as `count` says (eight at most), most significant first.
-fn print_low_bits(byte: u8, count: u8) {
-    let mut left = count;
-    while left > 0 {
-        left -= 1;
-        print_bit((byte >> (left % 8)) % 2 == 1);
-    }
-}
-
-fn print_payload(block: &[u8])
-    requires { ⌜ 10 ≤ length (now block) ⌝ }
-{
-    for i in 0..9 {
-        print_low_bits(block[i], 8);
-    }
-    print_low_bits(block[9] >> 3, 5);
-}
-
-fn print_checksum(c: Answer) {
-    match c {
-        Answer::Value(v) => {
-            print_low_bits(((v >> 8) % 64) as u8, 6);
-            print_low_bits((v % 256) as u8, 8);
-        }
-        Answer::Refused(_) => {
-            io::write_all(STDOUT_FILENO, b"refused");
+fn pack(line: &[u8; 215], payload: &mut [u8; 10]) {
+    for i in 0..77 {
+        if line[i] == b'1' {
+            payload[i / 8] = payload[i / 8] | (128u8 >> (i % 8));
         }
     }
 }
 
-// The vector of a line.
-fn replay(line: &[u8])
-    requires { ⌜ 77 ≤ length (now line) ⌝ }
-{
-    let mut payload = [0u8; 10];
-    let mut block = [0u8; 12];
-    pack(line, &mut payload);
-    match crc::ft8_add_crc(&payload, &mut block) {
+// The digit of the codeword's bit i.
+fn bit_digit(codeword: &[u8; 22], i: usize) -> u8 {
+    if i < 174 {
+        (codeword[i / 8] >> (7 - i % 8)) % 2 + b'0'
+    } else {
+        b'\n'
+    }
+}
+
+// The digit of a checksum's bit i.
+fn checksum_digit(checksum: u16, i: u8) -> u8 {
+    if checksum >> (13 - i % 14) & 1 == 0 {
+        b'0'
+    } else {
+        b'1'
+    }
+}
+
+// What stands at place i of a line: the payload's 77 bits, the checksum's 14 and the parity's 83, with a space between.
+fn digit(codeword: &[u8; 22], checksum: u16, i: usize) -> u8 {
+    if i < 77 {
+        return bit_digit(codeword, i);
+    }
+    if i == 77 {
+        return b' ';
+    }
+    if i < 92 {
+        return checksum_digit(checksum, (i - 78) as u8);
+    }
+    if i == 92 {
+        return b' ';
+    }
+    bit_digit(codeword, i - 2)
+}
+
+fn print_line(text: &[u8; 177]) {
+    io::write_all(STDOUT_FILENO, text);
+}
+
+fn print_fields(codeword: &[u8; 22], checksum: u16) {
+    let mut text = [0u8; 177];
+    for i in 0..177 {
+        text[i] = digit(codeword, checksum, i);
+    }
+    print_line(&text);
+}
+
+fn print_refused() {
+    io::write_all(STDOUT_FILENO, b"refused\n");
+}
+
+fn encode(block: &[u8; 12], checksum: u16) {
+    let mut codeword = [0xFFu8; 22];
+    match ldpc::ldpc_encode(block, &mut codeword) {
         Status::Done => {
-            print_payload(&block);
+            print_fields(&codeword, checksum);
         }
         Status::Refused(_) => {
-            io::write_all(STDOUT_FILENO, b"refused");
+            print_refused();
         }
     }
-    io::write_all(STDOUT_FILENO, b" ");
-    print_checksum(crc::ft8_extract_crc(&block));
-    io::write_all(STDOUT_FILENO, b"\n");
+}
+
+fn read_back(block: &[u8; 12]) {
+    match crc::ft8_extract_crc(block) {
+        Answer::Value(checksum) => {
+            encode(block, checksum);
+        }
+        Answer::Refused(_) => {
+            print_refused();
+        }
+    }
+}
+
+fn append(payload: &[u8; 10]) {
+    let mut block = [0u8; 12];
+    match crc::ft8_add_crc(payload, &mut block) {
+        Status::Done => {
+            read_back(&block);
+        }
+        Status::Refused(_) => {
+            print_refused();
+        }
+    }
+}
+
+// The fields of a line.
+fn replay(line: &[u8; 215]) {
+    let mut payload = [0u8; 10];
+    pack(line, &mut payload);
+    append(&payload);
 }
 
 // One line; answers whether there was one.
@@ -117,11 +120,9 @@ fn replay_one() -> bool {
 
 // At most a thousand lines are read.
 fn main() {
-    let mut left: usize = 1000;
-    while left > 0 {
+    for _ in 0..1000usize {
         if !replay_one() {
             return;
         }
-        left -= 1;
     }
 }

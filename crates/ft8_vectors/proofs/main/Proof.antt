@@ -1,13 +1,14 @@
--- `ft8_vectors::main` is safe and ends. The measure is the number of turns that are left; nothing has to hold from turn to turn.
+-- `ft8_vectors::main` is safe and ends. The measure is the number of turns that are left.
+use Prim.Native.Nat.{_-_}
 use borrow.Author.Needs.{needs}
 use Rattle.ft8_vectors.proofs.main.Statement.{statement}
 use Rattle.ft8_vectors.proofs.main.Tie as tie
 
 abbrev Inv-loop : tie.InvT-loop
-Inv-loop left₀ left = Unit {0}
+Inv-loop counter₀ counter = Unit {0}
 
 abbrev μ-loop : tie.MeasureT-loop
-μ-loop left₀ left = left
+μ-loop counter₀ counter = 1000 - counter
 
 loop-holds : tie.Need-loop-holds Inv-loop μ-loop
 loop-holds c = search needs
@@ -18,8 +19,8 @@ replay-one-requires c κs = search needs
 returns : tie.Need-returns Inv-loop μ-loop
 returns c = search needs
 
-sub-left : tie.Need-sub-left Inv-loop μ-loop
-sub-left c = search needs
+add-counter : tie.Need-add-counter Inv-loop μ-loop
+add-counter c = search needs
 
 loop-less : tie.Need-loop-less Inv-loop μ-loop
 loop-less c = search needs
@@ -39,7 +40,7 @@ main-spec =
     loop-holds
     replay-one-requires
     returns
-    sub-left
+    add-counter
     loop-less
     loop-again
     returns-2)

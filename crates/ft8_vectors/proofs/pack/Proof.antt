@@ -1,28 +1,32 @@
--- `ft8_vectors::pack` is safe and keeps the length of what it writes.
-use mathlib.Core.Path.{_≡_}
-use Prim.Native.Nat.{_-_, _≤_}
-use lib.ListN.{length}
+-- `ft8_vectors::pack` is safe and ends. The measure is the number of turns that are left.
+use Prim.Native.Nat.{_-_}
 use borrow.Author.Needs.{needs}
 use Rattle.ft8_vectors.proofs.pack.Statement.{statement}
 use Rattle.ft8_vectors.proofs.pack.Tie as tie
 
 abbrev Inv-loop : tie.InvT-loop
-Inv-loop line payload₀ i₀ payload i = (i ≤ 10) × (length payload ≡ length payload₀)
+Inv-loop line payload₀ i₀ payload i = Unit {0}
 
 abbrev μ-loop : tie.MeasureT-loop
-μ-loop line payload₀ i₀ payload i = 10 - i
+μ-loop line payload₀ i₀ payload i = 77 - i
 
 loop-holds : tie.Need-loop-holds Inv-loop μ-loop
 loop-holds c = search needs
 
-mul-packed-byte : tie.Need-mul-packed-byte Inv-loop μ-loop
-mul-packed-byte c = search needs
+element-copy-out-if1 : tie.Need-element-copy-out-if1 Inv-loop μ-loop
+element-copy-out-if1 c = search needs
 
-packed-byte-requires : tie.Need-packed-byte-requires Inv-loop μ-loop
-packed-byte-requires c κs = search needs
+element-copy-out-payload : tie.Need-element-copy-out-payload Inv-loop μ-loop
+element-copy-out-payload c = search needs
 
-slice-write-payload : tie.Need-slice-write-payload Inv-loop μ-loop
-slice-write-payload c = search needs
+cast-payload : tie.Need-cast-payload Inv-loop μ-loop
+cast-payload c = search needs
+
+shr-payload : tie.Need-shr-payload Inv-loop μ-loop
+shr-payload c = search needs
+
+element-write-payload : tie.Need-element-write-payload Inv-loop μ-loop
+element-write-payload c = search needs
 
 add-i : tie.Need-add-i Inv-loop μ-loop
 add-i c = search needs
@@ -32,9 +36,6 @@ loop-less c = search needs
 
 loop-again : tie.Need-loop-again Inv-loop μ-loop
 loop-again c = search needs
-
-same-length : tie.Need-same-length Inv-loop μ-loop
-same-length c = search needs
 
 returns : tie.Need-returns Inv-loop μ-loop
 returns c = search needs
@@ -46,11 +47,12 @@ pack-spec =
     Inv-loop
     μ-loop
     loop-holds
-    mul-packed-byte
-    packed-byte-requires
-    slice-write-payload
+    element-copy-out-if1
+    element-copy-out-payload
+    cast-payload
+    shr-payload
+    element-write-payload
     add-i
     loop-less
     loop-again
-    same-length
     returns)

@@ -1,14 +1,14 @@
--- `ft8_codewords::print_codeword` is safe and ends. The measure is the number of turns that are left.
+-- `ft8_vectors::print_fields` is safe and ends. The measure is the number of turns that are left.
 use Prim.Native.Nat.{_-_}
 use borrow.Author.Needs.{needs}
-use Rattle.ft8_codewords.proofs.print_codeword.Statement.{statement}
-use Rattle.ft8_codewords.proofs.print_codeword.Tie as tie
+use Rattle.ft8_vectors.proofs.print_fields.Statement.{statement}
+use Rattle.ft8_vectors.proofs.print_fields.Tie as tie
 
 abbrev Inv-loop : tie.InvT-loop
-Inv-loop codeword text₀ i₀ text i = Unit {0}
+Inv-loop codeword checksum text₀ i₀ text i = Unit {0}
 
 abbrev μ-loop : tie.MeasureT-loop
-μ-loop codeword text₀ i₀ text i = 175 - i
+μ-loop codeword checksum text₀ i₀ text i = 177 - i
 
 loop-holds : tie.Need-loop-holds Inv-loop μ-loop
 loop-holds c = search needs
@@ -34,8 +34,8 @@ print-line-requires c κs = search needs
 returns : tie.Need-returns Inv-loop μ-loop
 returns c = search needs
 
-pub print-codeword-spec : {M : Type 1} → statement M
-print-codeword-spec =
+pub print-fields-spec : {M : Type 1} → statement M
+print-fields-spec =
     tie.close
     (tie.spec
     Inv-loop
