@@ -85,11 +85,13 @@ _REASONS = {
     10: "a pair's length is not the code's N",
     11: "a pair starts below the end of the one before",
     12: "a pair ends past the values",
+    13: "a program's input is malformed",
     14: "a sum of the totals would pass its limit",
     15: "a fraction is asked of no frames",
     16: "a byte of a word with erasures is above 2",
     17: "a soft byte is -128",
     18: "a value is no soft byte's",
+    19: "a program is asked about a frame past the last",
     20: "a group's size is 0, or the sizes do not add up to the number of frames",
 }
 

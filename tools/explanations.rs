@@ -2,7 +2,7 @@
 // asked about is decoded by the Rust's ldpc.rs and ldpc_codes.rs, its checks are the Rust's own lists, and its checksums are taken by crc.rs. Built with
 // ORION_SRC naming a folder that holds crc.rs, ldpc.rs and ldpc_codes.rs; run in the repository's root, after tools/listings.rs:
 //
-//     ORION_SRC=folder rustc --edition 2021 -O tools/explanations.rs -o explanations && ./explanations
+//     ORION_SRC=folder rustc --edition 2021 -O tools/explanations.rs -o target/explanations && target/explanations
 //
 // The reasons and their lines are written here anew from change request N11.
 #[allow(dead_code)]

@@ -2,7 +2,7 @@
 // taken by crc.rs: document 01's sample (crates/batchlist), the samples of each code (samples/), and the inputs that crates/listing_replay replays.
 // Built with ORION_SRC naming a folder that holds crc.rs, ldpc.rs and ldpc_codes.rs; run in the repository's root:
 //
-//     ORION_SRC=folder rustc --edition 2021 -O tools/listings.rs -o listings && ./listings
+//     ORION_SRC=folder rustc --edition 2021 -O tools/listings.rs -o target/listings && target/listings
 //
 // The Rust has no batch and no refusals: the pairs' tests (tools/batches.rs) and the lines are written anew from document 01.
 #[allow(dead_code)]

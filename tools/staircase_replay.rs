@@ -1,7 +1,7 @@
 // Writes what crates/staircase_replay is run on: its stdin, words of 576 bytes, and its stdout, what the Rust's ldpc_codes.rs answers.
 // Built with ORION_SRC naming a folder that holds ldpc_codes.rs; run with the crate's folder as its argument:
 //
-//     ORION_SRC=folder rustc --edition 2021 -O tools/staircase_replay.rs -o staircase_replay && ./staircase_replay crates/staircase_replay
+//     ORION_SRC=folder rustc --edition 2021 -O tools/staircase_replay.rs -o target/staircase_replay && target/staircase_replay crates/staircase_replay
 //
 // All numbers are hexadecimal: first each code's msg_col_rows (with 0000, the relaxed picks, which the Rust does not count), then each code's
 // check_bits with their starts, then for each code the edges of each bit with their starts, an edge being the place of the bit in the joined

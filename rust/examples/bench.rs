@@ -44,7 +44,11 @@ mod compared {
         if name.contains("rounds") || name.contains("never") {
             0.25
         } else if name.contains("at once") {
-            if staircase { 0.6 } else { 1.0 }
+            if staircase {
+                0.6
+            } else {
+                1.0
+            }
         } else if staircase {
             0.5
         } else if name.starts_with("ft8_extract_crc") {
@@ -53,7 +57,6 @@ mod compared {
             1.0
         }
     }
-
 
     fn seconds(call: &mut dyn FnMut(), times: usize) -> f64 {
         let start = Instant::now();
@@ -139,12 +142,7 @@ mod compared {
         }
     }
 
-    fn frames(
-        random: &mut Random,
-        kind: usize,
-        word: &mut dyn FnMut(&mut Random) -> Vec<u8>,
-        count: &mut dyn FnMut(&[f32], u16) -> usize,
-    ) -> Vec<Vec<f32>> {
+    fn frames(random: &mut Random, kind: usize, word: &mut dyn FnMut(&mut Random) -> Vec<u8>, count: &mut dyn FnMut(&[f32], u16) -> usize) -> Vec<Vec<f32>> {
         let mut found = Vec::new();
         while found.len() < 24 {
             let word = word(random);
@@ -170,46 +168,35 @@ mod compared {
         let block: [u8; 12] = random.bytes(12).try_into().unwrap();
         let payload: [u8; 10] = random.bytes(10).try_into().unwrap();
         let (mut a, mut b) = ([0; 12], [0; 12]);
-        table.row(
-            "ft8_crc14, 82 bits",
-            &mut || _ = black_box(desklink::ft8_crc14(black_box(&block), 82)),
-            &mut || _ = black_box(orion::crc::ft8_crc14(black_box(&block), 82)),
-        );
-        table.row(
-            "ft8_add_crc",
-            &mut || desklink::ft8_add_crc(black_box(&payload), black_box(&mut a)),
-            &mut || orion::crc::ft8_add_crc(black_box(&payload), black_box(&mut b)),
-        );
-        table.row(
-            "ft8_extract_crc",
-            &mut || _ = black_box(desklink::ft8_extract_crc(black_box(&block))),
-            &mut || _ = black_box(orion::crc::ft8_extract_crc(black_box(&block))),
-        );
+        table.row("ft8_crc14, 82 bits", &mut || _ = black_box(desklink::ft8_crc14(black_box(&block), 82)), &mut || {
+            _ = black_box(orion::crc::ft8_crc14(black_box(&block), 82))
+        });
+        table.row("ft8_add_crc", &mut || desklink::ft8_add_crc(black_box(&payload), black_box(&mut a)), &mut || {
+            orion::crc::ft8_add_crc(black_box(&payload), black_box(&mut b))
+        });
+        table.row("ft8_extract_crc", &mut || _ = black_box(desklink::ft8_extract_crc(black_box(&block))), &mut || {
+            _ = black_box(orion::crc::ft8_extract_crc(black_box(&block)))
+        });
     }
 
     fn ft8(table: &mut Table, random: &mut Random) {
         let mut message: [u8; 12] = random.bytes(12).try_into().unwrap();
         message[11] &= 0xE0;
         let (mut a, mut b) = ([0; 22], [0; 22]);
-        table.row(
-            "ldpc_encode",
-            &mut || desklink::ldpc_encode(black_box(&message), black_box(&mut a)).unwrap(),
-            &mut || orion::ldpc::ldpc_encode(black_box(&message), black_box(&mut b)),
-        );
+        table.row("ldpc_encode", &mut || desklink::ldpc_encode(black_box(&message), black_box(&mut a)).unwrap(), &mut || {
+            orion::ldpc::ldpc_encode(black_box(&message), black_box(&mut b))
+        });
         let hard: [u8; 174] = random.bits(174).try_into().unwrap();
-        table.row(
-            "ldpc_count_errors",
-            &mut || _ = black_box(desklink::ldpc_count_errors(black_box(&hard))),
-            &mut || _ = black_box(orion::ldpc::ldpc_count_errors(black_box(&hard))),
-        );
+        table.row("ldpc_count_errors", &mut || _ = black_box(desklink::ldpc_count_errors(black_box(&hard))), &mut || {
+            _ = black_box(orion::ldpc::ldpc_count_errors(black_box(&hard)))
+        });
         for (kind, what) in KINDS.iter().enumerate() {
             let names = ["1 frame", "24 frames"].map(|frames| format!("ldpc_decode_soft, {what}, {frames}"));
             if !names.iter().any(|name| asked(name)) {
                 continue;
             }
             let mut count = |llr: &[f32], limit: u16| orion::ldpc::ldpc_decode_soft(llr.try_into().unwrap(), limit.into(), &mut [0; 174]);
-            let frames: Vec<[f32; 174]> =
-                frames(random, kind, &mut ft8_word, &mut count).into_iter().map(|f| f.try_into().unwrap()).collect();
+            let frames: Vec<[f32; 174]> = frames(random, kind, &mut ft8_word, &mut count).into_iter().map(|f| f.try_into().unwrap()).collect();
             let (mut a, mut b) = ([0; 174], [0; 174]);
             let (mut i, mut j) = (0, 0);
             table.row(
@@ -234,17 +221,13 @@ mod compared {
     fn staircase(table: &mut Table, random: &mut Random, code: LdpcCode, theirs: orion::ldpc_codes::LdpcCode) {
         let (port, original) = (Ldpc::new(code), orion::ldpc_codes::Ldpc::new(theirs));
         let message = random.bits(code.k());
-        table.row(
-            &format!("{code:?} encode"),
-            &mut || drop(black_box(port.encode(black_box(&message)))),
-            &mut || drop(black_box(original.encode(black_box(&message)))),
-        );
+        table.row(&format!("{code:?} encode"), &mut || drop(black_box(port.encode(black_box(&message)))), &mut || {
+            drop(black_box(original.encode(black_box(&message))))
+        });
         let hard = random.bits(code.n());
-        table.row(
-            &format!("{code:?} syndrome_weight"),
-            &mut || _ = black_box(port.syndrome_weight(black_box(&hard))),
-            &mut || _ = black_box(original.syndrome_weight(black_box(&hard))),
-        );
+        table.row(&format!("{code:?} syndrome_weight"), &mut || _ = black_box(port.syndrome_weight(black_box(&hard))), &mut || {
+            _ = black_box(original.syndrome_weight(black_box(&hard)))
+        });
         let rules = [
             ("sum-product", DecodeRule::SumProduct, orion::ldpc_codes::DecodeRule::SumProduct),
             ("min-sum", DecodeRule::MinSum, orion::ldpc_codes::DecodeRule::MinSum),
@@ -290,11 +273,9 @@ mod compared {
         staircase(table, random, LdpcCode::N512R12, orion::ldpc_codes::LdpcCode::N512R12);
         staircase(table, random, LdpcCode::N576R23, orion::ldpc_codes::LdpcCode::N576R23);
         staircase(table, random, LdpcCode::N512R34, orion::ldpc_codes::LdpcCode::N512R34);
-        table.row(
-            "Ldpc::new, N512R12",
-            &mut || _ = black_box(Ldpc::new(black_box(LdpcCode::N512R12))),
-            &mut || drop(black_box(orion::ldpc_codes::Ldpc::new(black_box(orion::ldpc_codes::LdpcCode::N512R12)))),
-        );
+        table.row("Ldpc::new, N512R12", &mut || _ = black_box(Ldpc::new(black_box(LdpcCode::N512R12))), &mut || {
+            drop(black_box(orion::ldpc_codes::Ldpc::new(black_box(orion::ldpc_codes::LdpcCode::N512R12))))
+        });
         println!("{} of {} rows miss their bar", table.missed, table.rows);
         table.missed == 0
     }

@@ -122,9 +122,8 @@ impl<'a> Batch<'a> {
     /// ```
     pub fn decode_moves(self, sizes: &[u32]) -> Result<Vec<Move<'a>>, Refusal> {
         let k = self.code.k();
-        let bits = self.by(|code, rule, limit, scale, values, pairs, out, work| {
-            slices::decode_groups(code, rule, limit, scale, values, pairs, sizes, out, work)
-        })?;
+        let bits =
+            self.by(|code, rule, limit, scale, values, pairs, out, work| slices::decode_groups(code, rule, limit, scale, values, pairs, sizes, out, work))?;
         Ok(moves(k, sizes, bits))
     }
 

@@ -12,6 +12,7 @@
 //! assert_eq!((bits, unsatisfied), (vec![1; 256], 0));
 //! # Ok::<(), desklink::Refusal>(())
 //! ```
+#![deny(missing_docs)]
 use std::cell::RefCell;
 
 mod batch;
@@ -37,8 +38,9 @@ pub const N: usize = 174;
 pub const K: usize = 91;
 /// Checks of the (174,91) code.
 pub const M: usize = 83;
-/// Bytes of a packed codeword and of a packed message.
+/// Bytes of a packed codeword.
 pub const N_BYTES: usize = 22;
+/// Bytes of a packed message.
 pub const K_BYTES: usize = 12;
 
 /// Runs `decode` with this thread's work area, which each decode leaves as zeros.
@@ -115,8 +117,5 @@ pub fn ldpc_count_errors(hard: &[u8; N]) -> usize {
 /// assert_eq!(plain, [0; 174]);
 /// ```
 pub fn ldpc_decode_soft(llr: &[f32; N], max_iter: u16, plain: &mut [u8; N]) -> usize {
-    with_work(|work| slices::ldpc_decode_soft(llr, max_iter, plain, work))
-        .expect("the lengths are fixed by their types")
-        .count
-        .into()
+    with_work(|work| slices::ldpc_decode_soft(llr, max_iter, plain, work)).expect("the lengths are fixed by their types").count.into()
 }

@@ -321,15 +321,7 @@ pub fn decode_soft(code: u32, limit: u16, llr: &[f32], bits: &mut [u8], work: &m
 }
 
 /// The same by the rule with that number: 0 sum-product, 1 min-sum, 2 min-sum times `scale`, 3 the default, min-sum times 0.75.
-pub fn decode_soft_with(
-    code: u32,
-    rule: u32,
-    scale: f32,
-    limit: u16,
-    llr: &[f32],
-    bits: &mut [u8],
-    work: &mut [f32],
-) -> Result<Decoded, Refusal> {
+pub fn decode_soft_with(code: u32, rule: u32, scale: f32, limit: u16, llr: &[f32], bits: &mut [u8], work: &mut [f32]) -> Result<Decoded, Refusal> {
     let _floats = DefaultFloats::set();
     let (mut rounds, mut first) = (0, NO_CHECK);
     let count = answer(unsafe {
@@ -469,7 +461,12 @@ pub enum Reason {
     /// The chosen word leaves a check unsatisfied: the lowest such check, counted from 0.
     Check(u16),
     /// The checksum of a (174,91) word is wrong: the one that it carries, and the one of its payload.
-    Checksum { carried: u16, computed: u16 },
+    Checksum {
+        /// The checksum that the word carries.
+        carried: u16,
+        /// The checksum of its payload.
+        computed: u16,
+    },
     /// It is not open: the frame is clean.
     Clean,
 }
@@ -515,15 +512,8 @@ pub fn frame_reason(code: u32, rule: u32, scale: f32, limit: u16, values: &[f32]
 
 /// The totals with the frames of a batch: of its values and pairs, and of the bits, counts and rounds that its call left. Refused as the batch is where a
 /// code, a pair or a length does not fit, and by 14 where a sum would pass its limit; the totals are then as they were.
-pub fn totals_add(
-    totals: &mut Totals,
-    code: u32,
-    values: &[f32],
-    pairs: &[[u32; 2]],
-    bits: &[u8],
-    counts: &[u16],
-    rounds: &[u16],
-) -> Result<(), Refusal> {
+/// After [`decode_groups`] the bits of a group that is not delivered are 255: a (174,91) frame of it is counted as not clean.
+pub fn totals_add(totals: &mut Totals, code: u32, values: &[f32], pairs: &[[u32; 2]], bits: &[u8], counts: &[u16], rounds: &[u16]) -> Result<(), Refusal> {
     let pairs = pairs.as_flattened();
     let _floats = DefaultFloats::set();
     answer(unsafe {

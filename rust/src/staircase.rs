@@ -85,22 +85,27 @@ pub struct Ldpc {
 }
 
 impl Ldpc {
+    /// The code with that name.
     pub fn new(code: LdpcCode) -> Self {
         Ldpc { code }
     }
 
+    /// Its name.
     pub fn code(&self) -> LdpcCode {
         self.code
     }
 
+    /// Bits of a codeword.
     pub fn n(&self) -> usize {
         self.code.n()
     }
 
+    /// Bits of a message.
     pub fn k(&self) -> usize {
         self.code.k()
     }
 
+    /// Parity bits, which are as many as the checks.
     pub fn m(&self) -> usize {
         self.code.m()
     }

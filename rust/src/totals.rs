@@ -54,15 +54,10 @@ pub struct Fraction {
 impl Totals {
     /// Adds the frames of a batch: of its values and pairs, and of the bits, counts and rounds that its call left. A code, pair or length that the batch
     /// would refuse is refused by the same number; [`Refusal::SumPastLimit`] leaves the totals as they were.
-    pub fn add(
-        &mut self,
-        code: Code,
-        values: &[f32],
-        pairs: &[[u32; 2]],
-        bits: &[u8],
-        counts: &[u16],
-        rounds: &[u16],
-    ) -> Result<(), Refusal> {
+    ///
+    /// [`Batch::decode_moves`](crate::Batch::decode_moves) leaves 255 in the bits of a move that it withholds. A (174,91) frame of such a move is counted as
+    /// not clean, whatever it was; a staircase frame by its count and its values, which need no bits.
+    pub fn add(&mut self, code: Code, values: &[f32], pairs: &[[u32; 2]], bits: &[u8], counts: &[u16], rounds: &[u16]) -> Result<(), Refusal> {
         slices::totals_add(self, code.number(), values, pairs, bits, counts, rounds)
     }
 

@@ -33,6 +33,25 @@ fn every_call_is_compared() {
     }
 }
 
+/// Each refusal of the header, `DESKLINK_NO_FRAMES = -15`, is the one of that name here; the table of the Python module has a line for each.
+#[test]
+fn refusals_have_one_number() {
+    const PYTHON: &str = include_str!("../../python/desklink.py");
+    let list = HEADER.split_once("enum desklink_refusal {").unwrap().1.split_once("};").unwrap().0;
+    let entries: Vec<(&str, u8)> = list
+        .lines()
+        .filter_map(|line| line.trim().strip_prefix("DESKLINK_")?.split_once(" = -"))
+        .map(|(name, rest)| (name, rest.chars().take_while(char::is_ascii_digit).collect::<String>().parse().unwrap()))
+        .collect();
+    assert_eq!(entries.iter().map(|e| e.1).collect::<Vec<_>>(), (1..=20).collect::<Vec<_>>());
+    for (name, number) in entries {
+        let here = desklink::Refusal::from_number(number).expect("every number of the header is a refusal here");
+        assert_eq!(format!("{here:?}").to_lowercase(), name.replace('_', "").to_lowercase());
+        assert!(PYTHON.contains(&format!("\n    {number}: \"")), "the Python module has no words for {number}");
+    }
+    assert_eq!(desklink::Refusal::from_number(21), None);
+}
+
 /// Whether the text has the call as a whole name.
 fn names_call(text: &str, call: &str) -> bool {
     text.match_indices(call).any(|(at, _)| !text[at + call.len()..].starts_with(|c: char| c.is_alphanumeric() || c == '_'))

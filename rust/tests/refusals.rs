@@ -63,11 +63,7 @@ fn ft8_encode_and_count() {
                 }
                 let before = random.bytes(output);
                 let mut codeword = before.clone();
-                let expected = first(&[
-                    (length != 12, Refusal::InputLength),
-                    (slack != 0, Refusal::MessageSlack),
-                    (output != 22, Refusal::OutputLength),
-                ]);
+                let expected = first(&[(length != 12, Refusal::InputLength), (slack != 0, Refusal::MessageSlack), (output != 22, Refusal::OutputLength)]);
                 if expect(slices::ldpc_encode(&message, &mut codeword), expected) {
                     assert_eq!(codeword, before);
                 }
@@ -88,11 +84,7 @@ fn staircase_encode_and_count() {
             for output in near(n) {
                 let before = random.bytes(output);
                 let mut codeword = before.clone();
-                let expected = first(&[
-                    (code > 2, Refusal::UnknownCode),
-                    (length != k, Refusal::InputLength),
-                    (output != n, Refusal::OutputLength),
-                ]);
+                let expected = first(&[(code > 2, Refusal::UnknownCode), (length != k, Refusal::InputLength), (output != n, Refusal::OutputLength)]);
                 if expect(slices::encode(code, &random.bytes(length), &mut codeword), expected) {
                     assert_eq!(codeword, before);
                 }
@@ -114,11 +106,7 @@ fn ft8_decode() {
                 let llr: Vec<f32> = (0..values).map(|_| random.pattern()).collect();
                 let (before, held) = (random.bytes(output), (0..area).map(|_| random.pattern()).collect::<Vec<f32>>());
                 let (mut plain, mut work) = (before.clone(), held.clone());
-                let expected = first(&[
-                    (values != 174, Refusal::InputLength),
-                    (output != 174, Refusal::OutputLength),
-                    (area < 3070, Refusal::WorkTooShort),
-                ]);
+                let expected = first(&[(values != 174, Refusal::InputLength), (output != 174, Refusal::OutputLength), (area < 3070, Refusal::WorkTooShort)]);
                 if expect(slices::ldpc_decode_soft(&llr, 2, &mut plain, &mut work), expected) {
                     assert!(plain == before && same_bits(&work, &held));
                 }
@@ -139,12 +127,9 @@ fn staircase_decode() {
                         let llr: Vec<f32> = (0..values).map(|_| random.pattern()).collect();
                         let (before, held) = (random.bytes(output), (0..area).map(|_| random.pattern()).collect::<Vec<f32>>());
                         let (mut bits, mut work) = (before.clone(), held.clone());
-                        let frame = [
-                            (values != n, Refusal::InputLength),
-                            (output != k, Refusal::OutputLength),
-                            (area < 3070, Refusal::WorkTooShort),
-                        ];
-                        let with = [&[(code > 2, Refusal::UnknownCode), (rule > 4, Refusal::UnknownRule), (rule == 4, Refusal::RuleNotOfCode)][..], &frame].concat();
+                        let frame = [(values != n, Refusal::InputLength), (output != k, Refusal::OutputLength), (area < 3070, Refusal::WorkTooShort)];
+                        let with =
+                            [&[(code > 2, Refusal::UnknownCode), (rule > 4, Refusal::UnknownRule), (rule == 4, Refusal::RuleNotOfCode)][..], &frame].concat();
                         if expect(slices::decode_soft_with(code, rule, random.pattern(), 1, &llr, &mut bits, &mut work), first(&with)) {
                             assert!(bits == before && same_bits(&work, &held));
                         }
@@ -196,11 +181,7 @@ fn pair_fault(n: usize, values: usize, pairs: &[[u32; 2]]) -> Option<Refusal> {
     let mut end = 0;
     for &[offset, length] in pairs {
         let (offset, length) = (offset as usize, length as usize);
-        let fault = first(&[
-            (length != n, Refusal::PairLength),
-            (offset < end, Refusal::PairOrder),
-            (offset + length > values, Refusal::PairPastEnd),
-        ]);
+        let fault = first(&[(length != n, Refusal::PairLength), (offset < end, Refusal::PairOrder), (offset + length > values, Refusal::PairPastEnd)]);
         if fault.is_some() {
             return fault;
         }
@@ -356,7 +337,13 @@ fn eighths() {
         slices::values_of_bytes(&all, positive_is_one, &mut values).unwrap();
         for (&byte, value) in all.iter().zip(&values) {
             let eighth = f32::from(byte) / 8.0;
-            let expected = if byte == 0 { 0.0 } else if positive_is_one { -eighth } else { eighth };
+            let expected = if byte == 0 {
+                0.0
+            } else if positive_is_one {
+                -eighth
+            } else {
+                eighth
+            };
             assert_eq!(value.to_bits(), expected.to_bits());
         }
         slices::bytes_of_values(&values, positive_is_one, &mut back).unwrap();
