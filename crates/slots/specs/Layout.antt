@@ -4,7 +4,8 @@ use mathlib.Core.Bool.{cond}
 use mathlib.Core.List.{List, [], _∷_, map}
 use Prim.Native.Nat.{ℕ, suc, _+_, _-_, _*_, _<_, _≤_}
 use lib.Dec.{ltb}
-use lib.ListN.{length, getD, take, drop}
+use lib.Ieee.{Float}
+use lib.ListN.{length, getD, take, drop, set}
 use Rattle.tanner.specs.Checks.{Checks}
 use Rattle.tanner.specs.Flat.{joined, places}
 
@@ -60,3 +61,10 @@ threes [] = []
 threes (a ∷ []) = []
 threes (a ∷ (b ∷ [])) = []
 threes (a ∷ (b ∷ (c ∷ l))) = (a ∷ (b ∷ (c ∷ []))) ∷ threes l
+
+-- ---- one value at several places
+
+-- v at each of the places
+unfoldable pub scattered : Float → List ℕ → List Float → List Float
+scattered v [] w = w
+scattered v (e ∷ es) w = scattered v es (set w e v)

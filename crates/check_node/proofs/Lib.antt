@@ -1,0 +1,11 @@
+pub mod TimesOne
+pub mod Pads
+pub mod ProductLoops
+pub mod ProductColumns
+pub mod ProductTurn
+pub mod Magnitudes
+pub mod Cells
+pub mod CellSlots
+pub mod CellColumns
+pub mod PadsSet
+pub mod Steps
