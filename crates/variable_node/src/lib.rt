@@ -104,14 +104,7 @@ pub fn parity_first(k: usize, m: usize, from: usize, llr: &[f32], messages: &mut
 }
 
 // The decision and the new messages of each parity bit but the last.
-fn paired_bits(
-    k: usize,
-    m: usize,
-    from: usize,
-    llr: &[f32],
-    messages: &mut [f32],
-    hard: &mut [u8],
-)
+fn paired_bits(k: usize, m: usize, from: usize, llr: &[f32], messages: &mut [f32], hard: &mut [u8])
     requires { ⌜ k + m ≤ length (now llr) ⌝ }
     requires { ⌜ k + m ≤ length (now hard) ⌝ }
     requires { ⌜ Paired m from (length (now messages)) ⌝ }

@@ -96,7 +96,7 @@ loop-again c =
       omega arith,
       simp length-set (omega arith),
       rw (factor .factor-of .ensures)
-      (answer-more _ _ _ _ _ _ _ _ _ _ _ (omega arith) refl (size .magnitude .ensures) (sign .turn-sign .ensures) (equal .where-equal .ensures)
+          (answer-more _ _ _ _ _ _ _ _ _ _ _ (omega arith) refl (size .magnitude .ensures) (sign .turn-sign .ensures) (equal .where-equal .ensures)
           (lower .lesser .ensures) (c .greater .ensures) (turn .before .loop .inv .2)),
     )
 
