@@ -384,6 +384,13 @@ int32_t desklink_fill_erasures(uint32_t code, uint8_t *word, size_t word_len, ui
  * construction were relaxed. How many cycles there are. */
 int32_t desklink_list_cycles(uint32_t code, uint16_t *places, size_t places_len, uint16_t *relaxed);
 
+/* A word is one bit a byte here, and packed, eight bits a byte, most significant first, in the calls of FT8's names: a
+ * (174,91) message of 91 bits in 12 bytes, its codeword of 174 in 22. pack_bits packs the low bits of word's bytes, the
+ * last byte filled with zeros; bytes: exactly as many as the bits need, written. unpack_bits takes out as many bits as
+ * word has places, written, from bytes, of which what the bits do not need is not read. */
+int32_t desklink_pack_bits(const uint8_t *word, size_t word_len, uint8_t *bytes, size_t bytes_len);
+int32_t desklink_unpack_bits(const uint8_t *bytes, size_t bytes_len, uint8_t *word, size_t word_len);
+
 /* Soft bytes, -127 to 127 in eighths, and values, as many of one as of the other; where positive_is_one is not 0, the
  * bytes are of a model that counts positive as 1. Either call undoes the other. */
 int32_t desklink_values_of_bytes_unguarded(const int8_t *bytes, size_t bytes_len, uint32_t positive_is_one,

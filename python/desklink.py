@@ -238,13 +238,20 @@ def ft8_extract_crc(block):
 
 def pack(bits):
     """Bits, one a byte, packed most significant first, the last byte filled with zeros."""
-    filled = bytes(bits) + bytes(-len(bits) % 8)
-    return bytes(sum((filled[i + j] & 1) << (7 - j) for j in range(8)) for i in range(0, len(filled), 8))
+    with _bytes(bits) as lent:
+        packed = (ctypes.c_uint8 * ((lent.length.value + 7) // 8))()
+        _answer(_library.desklink_pack_bits(lent.pointer, lent.length, *_slice(packed)))
+    return bytes(packed)
 
 
 def unpack(data, count):
-    """The first `count` bits of packed bytes, one a byte."""
-    return bytes(data[i // 8] >> (7 - i % 8) & 1 for i in range(count))
+    """The first `count` bits of packed bytes, one a byte; refused by 4 where there are fewer."""
+    with _bytes(data) as lent:
+        if (count + 7) // 8 > lent.length.value:
+            raise Refused(4)
+        bits = (ctypes.c_uint8 * count)()
+        _answer(_library.desklink_unpack_bits(lent.pointer, lent.length, *_slice(bits)))
+    return bytes(bits)
 
 
 # ---- encoding and counting

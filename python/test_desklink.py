@@ -178,7 +178,12 @@ class Others(unittest.TestCase):
 
     def test_pack(self):
         bits = bytes([1, 0, 1, 1, 0, 0, 0, 1, 1])
+        self.assertEqual(desklink.pack(bits), bytes([0xB1, 0x80]))
         self.assertEqual(desklink.unpack(desklink.pack(bits), 9), bits)
+        self.assertEqual((desklink.pack(b""), desklink.unpack(b"", 0)), (b"", b""))
+        with self.assertRaises(desklink.Refused) as refused:
+            desklink.unpack(bytes(2), 17)
+        self.assertEqual(refused.exception.number, 4)
 
 
 class Figures(unittest.TestCase):

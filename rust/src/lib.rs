@@ -119,3 +119,32 @@ pub fn ldpc_count_errors(hard: &[u8; N]) -> usize {
 pub fn ldpc_decode_soft(llr: &[f32; N], max_iter: u16, plain: &mut [u8; N]) -> usize {
     with_work(|work| slices::ldpc_decode_soft(llr, max_iter, plain, work)).expect("the lengths are fixed by their types").count.into()
 }
+
+/// Bits, one a byte, packed eight a byte, most significant first, the last byte filled with zeros: 91 message bits make the 12 bytes of
+/// [`ldpc_encode`] and [`ft8_extract_crc`].
+///
+/// ```
+/// assert_eq!(desklink::pack_bits(&[1, 0, 1, 1, 0, 0, 0, 0, 1]), [0xB0, 0x80]);
+/// ```
+pub fn pack_bits(bits: &[u8]) -> Vec<u8> {
+    let mut bytes = vec![0; bits.len().div_ceil(8)];
+    slices::pack_bits(bits, &mut bytes).expect("the bytes are as many as the bits need");
+    bytes
+}
+
+/// The first `count` bits of packed bytes, one a byte: 174 of the 22 bytes that [`ldpc_encode`] writes. Refused where there are fewer.
+///
+/// ```
+/// use desklink::{unpack_bits, Refusal};
+/// assert_eq!(unpack_bits(&[0xB0, 0x80], 9)?, [1, 0, 1, 1, 0, 0, 0, 0, 1]);
+/// assert_eq!(unpack_bits(&[0xB0], 9), Err(Refusal::InputLength));
+/// # Ok::<(), Refusal>(())
+/// ```
+pub fn unpack_bits(bytes: &[u8], count: usize) -> Result<Vec<u8>, Refusal> {
+    if count.div_ceil(8) > bytes.len() {
+        return Err(Refusal::InputLength);
+    }
+    let mut bits = vec![0; count];
+    slices::unpack_bits(bytes, &mut bits)?;
+    Ok(bits)
+}

@@ -178,6 +178,8 @@ mod ffi {
         pub fn desklink_mean_count_unguarded(frames: u32, counts: u64, over: *mut u64, under: *mut u64) -> i32;
         pub fn desklink_fill_erasures(code: u32, word: *mut u8, word_len: usize, places: *mut u16, places_len: usize) -> i32;
         pub fn desklink_list_cycles(code: u32, places: *mut u16, places_len: usize, relaxed: *mut u16) -> i32;
+        pub fn desklink_pack_bits(word: *const u8, word_len: usize, bytes: *mut u8, bytes_len: usize) -> i32;
+        pub fn desklink_unpack_bits(bytes: *const u8, bytes_len: usize, word: *mut u8, word_len: usize) -> i32;
         pub fn desklink_values_of_bytes_unguarded(bytes: *const i8, bytes_len: usize, positive_is_one: u32, values: *mut f32, values_len: usize) -> i32;
         pub fn desklink_bytes_of_values_unguarded(values: *const f32, values_len: usize, positive_is_one: u32, bytes: *mut i8, bytes_len: usize) -> i32;
     }
@@ -598,6 +600,16 @@ pub fn list_cycles(code: u32, places: &mut [[u16; 4]]) -> Result<Listed, Refusal
     let places = places.as_flattened_mut();
     let cycles = answer(unsafe { ffi::desklink_list_cycles(code, places.as_mut_ptr(), places.len(), &mut relaxed) })?;
     Ok(Listed { cycles, relaxed })
+}
+
+/// The low bits of the word's bytes, packed eight a byte, most significant first, the last byte filled with zeros. `bytes` has as many as the bits need.
+pub fn pack_bits(word: &[u8], bytes: &mut [u8]) -> Result<(), Refusal> {
+    answer(unsafe { ffi::desklink_pack_bits(word.as_ptr(), word.len(), bytes.as_mut_ptr(), bytes.len()) }).map(drop)
+}
+
+/// As many bits as `word` has places, from the front of packed bytes. What lies past them is not read.
+pub fn unpack_bits(bytes: &[u8], word: &mut [u8]) -> Result<(), Refusal> {
+    answer(unsafe { ffi::desklink_unpack_bits(bytes.as_ptr(), bytes.len(), word.as_mut_ptr(), word.len()) }).map(drop)
 }
 
 /// Soft bytes in eighths, -127 to 127, to as many values, negated for a model that counts positive as 1.

@@ -3,12 +3,13 @@
 const HEADER: &str = include_str!("../../include/desklink.h");
 
 /// The tests that compare, by file.
-const COMPARISONS: [(&str, &str); 5] = [
+const COMPARISONS: [(&str, &str); 6] = [
     ("compare.rs", include_str!("compare.rs")),
     ("groups.rs", include_str!("groups.rs")),
     ("clean.rs", include_str!("clean.rs")),
     ("figures.rs", include_str!("figures.rs")),
     ("refusals.rs", include_str!("refusals.rs")),
+    ("packing.rs", include_str!("packing.rs")),
 ];
 
 /// The names of the header's functions, without the prefix and without the unguarded ones that others wrap.

@@ -36,6 +36,7 @@ ghost use Rattle.eighths.specs.Calls.{bytesRefusals, valuesRefusals, valuesOf, 
 ghost use Rattle.erasure.specs.Filling.{filledWord, filledPlaces, listed};
 ghost use Rattle.erasure.specs.Calls.{checksBy, erasureRefusals};
 ghost use Rattle.cycles.specs.Calls.{Report, listedOf, cycleRefusals, reportBy, writtenBy};
+ghost use Rattle.packing.specs.Packing.{packedWord, unpackedWord, packRefusals, unpackRefusals};
 ghost use Rattle.clean_frames.specs.Calls.{frameRefusals, cleanNumber};
 ghost use Rattle.reason.specs.Calls as reason·calls;
 ghost use Rattle.desklink.specs.Coded.{coded, codedUnit, lent, toldIn, Counts, Decodes, kindOf, partOf, computedOf, Explains, Lists};
@@ -552,4 +553,25 @@ pub extern "C" fn desklink_bytes_of_values_unguarded(
         (bytesOf (not (eqb «positive_is_one» 0)) (now (values .entry))) ⌝ }
 {
     status_code(eighths::bytes_of_values(values, positive_is_one != 0, bytes))
+}
+
+// ---- words packed eight bits a byte
+
+#[no_mangle]
+pub extern "C" fn desklink_pack_bits(word: &[u8], bytes: &mut [u8]) -> i32
+    ensures { λ n. ⌜ n ≡ codedUnit (judged (packRefusals (now (word .entry)) (now (bytes .entry))) tt) ⌝ }
+    ensures { λ _. ⌜ now (bytes .exit)
+        ≡ kept (packRefusals (now (word .entry)) (now (bytes .entry))) (now (bytes .entry)) (packedWord (now (word .entry))) ⌝ }
+{
+    status_code(packing::pack_bits(word, bytes))
+}
+
+#[no_mangle]
+pub extern "C" fn desklink_unpack_bits(bytes: &[u8], word: &mut [u8]) -> i32
+    ensures { λ n. ⌜ n ≡ codedUnit (judged (unpackRefusals (now (bytes .entry)) (now (word .entry))) tt) ⌝ }
+    ensures { λ _. ⌜ now (word .exit)
+        ≡ kept (unpackRefusals (now (bytes .entry)) (now (word .entry))) (now (word .entry))
+        (unpackedWord (length (now (word .entry))) (now (bytes .entry))) ⌝ }
+{
+    status_code(packing::unpack_bits(bytes, word))
 }
