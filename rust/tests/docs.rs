@@ -1,0 +1,30 @@
+//! The pages name what is there: every crate, every call of the header.
+
+const README: &str = include_str!("../../README.md");
+const CRATES: &str = include_str!("../../crates.txt");
+const HEADER: &str = include_str!("../../include/desklink.h");
+
+/// The words of a text, by letters, digits and underscores.
+fn words(text: &str) -> Vec<&str> {
+    text.split(|c: char| !c.is_alphanumeric() && c != '_').filter(|word| !word.is_empty()).collect()
+}
+
+#[test]
+fn every_crate_is_in_the_picture() {
+    let said = words(README.split_once("## What is where").expect("the README says what is where").1);
+    for name in CRATES.lines().filter(|line| !line.starts_with('#')).filter_map(|line| line.split_once(':')).map(|line| line.0) {
+        assert!(said.contains(&name), "the README says nothing of crate {name}");
+    }
+}
+
+#[test]
+fn every_call_is_in_the_table() {
+    let calls = words(HEADER).into_iter().filter_map(|word| word.strip_prefix("desklink_")?.strip_suffix("_unguarded"));
+    let plain = HEADER.lines().filter_map(|line| Some(line.strip_prefix("int32_t desklink_")?.split_once('(')?.0));
+    let said = words(README);
+    let names: Vec<&str> = calls.chain(plain.filter(|name| !name.ends_with("_unguarded"))).collect();
+    assert!(names.len() > 20, "the header's calls were not found: {names:?}");
+    for name in names {
+        assert!(said.contains(&name), "the README's table has no {name}");
+    }
+}
