@@ -4,11 +4,11 @@
  * or -20. A refused call has written nothing. A call that only writes answers 0.
  *
  * Counts. A word's count is how many of the code's parity checks it leaves unsatisfied; 0 says that it is a codeword.
- * Before a frame is trusted, test that its count is 0, that none of its values is NaN (a dead aerial gives NaN
- * everywhere, which decodes to the zero word with count 0) and, for (174,91), that its first 77 bits have the
- * checksum that it carries. A frame that passes all of that is clean, as desklink_frame_clean says. Beside a
- * count, `first` gets the number of the lowest check that it includes, from 0, or DESKLINK_NO_CHECK where it is 0;
- * beside the count of a decode, `rounds` gets how many rounds were run. Neither pointer is null.
+ * A count of 0 alone is not clean. Before a frame is trusted, test that its count is 0, that none of its values is
+ * NaN (a dead aerial gives NaN everywhere, which decodes to the zero word with count 0) and, for (174,91), that its
+ * first 77 bits have the checksum that it carries. A frame that passes all of that is clean, as desklink_frame_clean
+ * says. Beside a count, `first` gets the number of the lowest check that it includes, from 0, or DESKLINK_NO_CHECK
+ * where it is 0; beside the count of a decode, `rounds` gets how many rounds were run. Neither pointer is null.
  *
  * Slices. A slice is passed as a pointer and then the number of its elements. The pointer is never null (a slice of
  * no elements may have any other pointer that is aligned), is aligned for its type, and the memory is the caller's

@@ -7,7 +7,10 @@ src--src--fec--ldpc_codes.rs.txt). rustc must be on the path.
 
 The Rust keeps the check step and the variable node inside its decoders, so their text is cut out of
 the two files and compiled unchanged inside a small harness: what it prints is the expected output.
-The only lines put in are those that hand the decision sum out."""
+The only lines put in are those that hand the decision sum out.
+
+Records 7 and 8 are the min-sum records 2 and 3 again: the program answers them by its second engine,
+and the Rust's answers are the same."""
 import os, random, re, struct, subprocess, sys, tempfile
 
 SRC = os.environ.get('ORION_SRC')
@@ -132,8 +135,8 @@ fn main() {
                 show(a);
             },
             1 => Graph::check(part, DecodeRule::SumProduct).iter().for_each(|x| show(*x)),
-            2 => Graph::check(part, DecodeRule::MinSum).iter().for_each(|x| show(*x)),
-            3 => Graph::check(part, DecodeRule::ScaledMinSum(parameter)).iter().for_each(|x| show(*x)),
+            2 | 7 => Graph::check(part, DecodeRule::MinSum).iter().for_each(|x| show(*x)),
+            3 | 8 => Graph::check(part, DecodeRule::ScaledMinSum(parameter)).iter().for_each(|x| show(*x)),
             4 => ft8::check(part).iter().for_each(|x| show(*x)),
             5 => show_bit(Graph::bit(parameter, &answers), work, n),
             6 => show_bit(ft8::bit(parameter, &answers), work, n),
@@ -194,7 +197,12 @@ def inputs():
             for turn in range(24):
                 draw = usual if turn < 8 else mixed
                 out.append(record(what, n, draw(), scattered([draw() for _ in range(n)])))
-    return b''.join(out)
+    for what in (2, 3):
+        for degree in range(1, 12):
+            for few in ([bits(2.0), bits(-2.0)], [0, 0x80000000], [0x7fc00000], [0x7fc00000, bits(1.0), bits(-1.0)], [0x7f800000, 0xff800000, 0x7fc00000]):
+                out.append(record(what, degree, r.choice(SCALES), [r.choice(few) for _ in range(degree)]))
+    second = {2: 7, 3: 8}
+    return b''.join(out + [bytes([second[o[0]]]) + o[1:] for o in out if o[0] in second])
 
 
 folder = 'crates/softmath_replay'

@@ -2,11 +2,13 @@
 -- what is kept is, at each entry passed, the least magnitude of its others so far. Assumes nothing.
 use mathlib.Core.Bool.{Bool, true, false, cond}
 use mathlib.Core.Path.{_≡_, refl, sym, ap, subst, _∙_}
-use mathlib.Core.List.{List, [], _∷_, _++_}
-use Prim.Native.Nat.{ℕ, suc, _+_, _-_, _*_, _≤_, _<_}
+use mathlib.Core.List.{List, [], _∷_, _++_, append-assoc, append-nil}
+use Prim.Native.Nat.{ℕ, suc, _+_, _*_, _≤_, _<_}
 use native.Mathlib.Nat.{lt-of-not-le}
 use native.Mathlib.Omega.{arith}
-use lib.ListN.{length, take, drop, getD, set}
+use native.Mathlib.Numerals.{add-one}
+use lib.ListN.{length, take, drop, set, drop-of-length-le}
+use lib.Seq.{take-suc, take-suc-set, drop-cons, take-all}
 use lib.Dec.{eqb}
 use lib.Ieee.{Float, nan, inf, fin, up, down, neg, lt, eq}
 use lib.Ieee.Fits.{down-pos}
@@ -18,7 +20,6 @@ use Rattle.softmath.specs.CheckNode.{overOthers, noneSeen, turned, seen,
 use Rattle.softmath.specs.Others.{lesserOf, turnedBy, leastOf, signOf, othersAnswer, othersSum}
 use Rattle.softmath.specs.declared.DecodeRule.the-variants.{MinSum, ScaledMinSum}
 use Rattle.softmath.specs.declared.Minima.{Minima}
-use Rattle.softmath.proofs.InPlace.{rest-whole, place-more, place-done}
 use Rattle.softmath.proofs.LeaveOneOut.{fold-append}
 use Rattle.softmath.proofs.MinSum.{lt-self}
 
@@ -207,6 +208,24 @@ turned-last x s (y ∷ ys) = ap (λ (g : Float). foldFrom turnedBy g ys) (turns-
 own-sign-out : (x s : Float) (xs : List Float) → turned x (foldFrom turnedBy (turned x s) xs) ≡ foldFrom turnedBy s xs
 own-sign-out x s xs = rw (turned-last x s xs) (turn-twice (lt x zero32) (foldFrom turnedBy s xs))
 
+-- ---- the loop of the second engine
+
+-- a turn: f of the others of entry i, of those before it and those after it, goes to its place
+pub others-more : (f : List Float → Float) (l a r : List Float) (i : ℕ) → i < length l → length a ≡ length l
+    → take i a ++ overOthers f (take i l) (drop i l) ≡ r
+    → take (i + 1) (set a i (f (take i l ++ drop (i + 1) l))) ++ overOthers f (take (i + 1) l) (drop (i + 1) l) ≡ r
+unfolding overOthers
+others-more f l a r i h e k =
+    let ha : i < length a = omega (arith, h, e) in
+    rw (add-one, take-suc-set a i (f (take i l ++ drop (suc i) l)) ha, append-assoc, take-suc l i nan h) (rw (drop-cons l i nan h) at k)
+
+pub others-done : (f : List Float → Float) (l a r : List Float) (i : ℕ) → length l ≤ i → length a ≡ length l
+    → take i a ++ overOthers f (take i l) (drop i l) ≡ r → a ≡ r
+unfolding overOthers
+others-done f l a r i h e k =
+    let ha : length a ≤ i = omega (arith, h, e) in
+    rw (take-all i a ha, drop-of-length-le l h, append-nil) at k
+
 -- ---- the answers
 
 module _ (scale : Float) where
@@ -245,23 +264,6 @@ module _ (scale : Float) where
   same-answers vs =
       let known : Kept noneSeen = ((refl, refl), (refl, refl), refl) in
       kept-answers vs noneSeen 0 known (omega arith, λ q. refl) ∙ sym (others-shared [] vs)
-
-  -- a turn of the loop that puts the answers in place: a and b are the sign and the least magnitude of the others, n is the own magnitude
-  pub others-more : (l r : List Float) (i : ℕ) (least sign a b n least1 sign1 : Float) → i < length l → a ≡ foldFrom turnedBy sign (take (length l - (i + 1)) (drop (i + 1) l))
-      → b ≡ foldFrom lesserOf least (take (length l - (i + 1)) (drop (i + 1) l)) → n ≡ magnitudeOf (getD l i nan) → least1 ≡ cond (lt n least) n least → sign1 ≡ turned (getD l i nan) sign
-      → take i l ++ answersFrom least sign (drop i l) ≡ r → take (i + 1) (set l i ((scale ⊗ a) ⊗ b)) ++ answersFrom least1 sign1 (drop (i + 1) (set l i ((scale ⊗ a) ⊗ b))) ≡ r
-  unfolding answersFrom
-  others-more l r i least sign a b n least1 sign1 h ea eb en el es k =
-      place-more (λ (p : Float × Float) (xs : List Float). answersFrom (p .0) (p .1) xs)
-      (λ p x xs. (scale ⊗ foldFrom turnedBy (p .1) xs) ⊗ foldFrom lesserOf (p .0) xs)
-      (λ p x. (lesserOf (p .0) x, turned x (p .1))) (λ p x xs. refl) nan l r i (least, sign) (least1, sign1) _ h (rw (ea, eb, rest-whole l (i + 1)) refl) (rw (el, es, en) refl) k
-
-  pub others-done : (l r : List Float) (i : ℕ) (least sign : Float) → length l ≤ i → take i l ++ answersFrom least sign (drop i l) ≡ r → l ≡ r
-  unfolding answersFrom
-  others-done l r i least sign h k =
-      place-done (λ (p : Float × Float) (xs : List Float). answersFrom (p .0) (p .1) xs)
-      (λ p x xs. (scale ⊗ foldFrom turnedBy (p .1) xs) ⊗ foldFrom lesserOf (p .0) xs)
-      (λ p x. (lesserOf (p .0) x, turned x (p .1))) (λ p x xs. refl) nan (λ p. refl) l r i (least, sign) h k
 
 -- both rules, at every check
 pub both-rules : (scale : Float) (vs : List Float) → (checkStep MinSum vs ≡ othersSum one32 vs) × (checkStep (ScaledMinSum scale) vs ≡ othersSum scale vs)

@@ -5,7 +5,7 @@ use Prim.Native.Nat.{ℕ, suc, _+_, _-_, _≤_, _<_}
 use native.Mathlib.Omega.{arith}
 use native.Mathlib.Numerals.{add-one}
 use lib.ListN.{length, take, drop, getD, set, length-drop, drop-of-length-le}
-use lib.Seq.{take-suc-set, drop-set-lt, drop-cons, take-all}
+use lib.Seq.{take-suc, take-suc-set, drop-set-lt, drop-cons, take-all}
 
 -- the part of a list from n to its end
 pub rest-whole : {A : Type 0} (l : List A) (n : ℕ) → take (length l - n) (drop n l) ≡ drop n l
@@ -48,3 +48,13 @@ module _ {A : Type 0} (f : A → A) (d : A) where
 
   pub each-done : (l r : List A) (i : ℕ) → length l ≤ i → take i l ++ map f (drop i l) ≡ r → l ≡ r
   each-done l r i h k = place-done (λ (s : Unit {0}) (xs : List A). map f xs) (λ s x xs. f x) (λ s x. s) (λ s x xs. refl) d (λ s. refl) l r i tt h k
+
+-- A loop that copies the elements of l to the front of r.
+module _ {A : Type 0} (l r : List A) (i : ℕ) where
+  pub copy-more : (d : A) → i < length l → i < length r → take i r ≡ take i l → take (i + 1) (set r i (getD l i d)) ≡ take (i + 1) l
+  copy-more d h hr k = rw (add-one, take-suc-set r i (getD l i d) hr, take-suc l i d h, k) refl
+
+  pub copy-done : length l ≤ i → i ≤ length l → take i r ≡ take i l → take (length l) r ≡ l
+  copy-done h g k =
+      let e : length l ≡ i = omega (arith, h, g) in
+      rw e (k ∙ take-all i l h)

@@ -1,14 +1,15 @@
 // The f32 arithmetic of a decoding round: the check step and the variable node, each operation rounded once in a fixed order.
 ghost use mathlib.Core.Path.{_≡_};
 ghost use mathlib.Core.Bool.{true, cond};
-ghost use mathlib.Core.List.{map};
+ghost use Prim.Native.Nat.{_≤_};
+ghost use mathlib.Core.List.{map, _++_};
 ghost use lib.Dec.{eqb};
 ghost use lib.Ieee.{neg, lt, eq};
-ghost use lib.ListN.{length};
+ghost use lib.ListN.{length, take};
 ghost use Rattle.softmath.specs.Single.{_⊘_, _⊗_, foldFrom, product, sumFrom};
 ghost use Rattle.softmath.specs.Functions.{tanh, atanh, clampUnit, magnitudeOf, decide};
 ghost use Rattle.softmath.specs.CheckNode.{atEach, turned, seen, minimaOf, minAnswer, minSum, clampedAnswer, negatedAnswer, before, middle, after};
-ghost use Rattle.softmath.specs.Others.{lesserOf, turnedBy};
+ghost use Rattle.softmath.specs.Others.{lesserOf, turnedBy, othersAnswer, othersSum};
 ghost use Rattle.softmath.specs.VariableNode.{decisionSum, answersAt, EdgesWithin, lessOwn, othersSummed, bitTurned};
 
 // Which engine answers a min-sum check: the two least magnitudes of all its messages, or each entry's others one by one.
@@ -261,8 +262,8 @@ fn min_answer(scale: f32, m: Minima, i: usize, v: f32) -> f32
     scale * sign * other_least(m, i)
 }
 
-// Min-sum in place: the answers to a check's messages.
-fn min_sum(scale: f32, part: &mut [f32])
+// The first engine of min-sum, in place: the answers to a check's messages from their two least magnitudes.
+pub fn min_sum(scale: f32, part: &mut [f32])
     ensures { λ _. ⌜ now (part .exit) ≡ minSum scale (now (part .entry)) ⌝ }
 {
     let m = least_two(part);
@@ -299,33 +300,62 @@ fn sign_from(start: f32, part: &[f32]) -> f32
     sign
 }
 
-// Min-sum in place, from each entry's others: those before are carried along, those after are gone through anew.
-// The contract is the other engine's.
-fn min_sum_by_others(scale: f32, part: &mut [f32])
-    ensures { λ _. ⌜ now (part .exit) ≡ minSum scale (now (part .entry)) ⌝ }
+// The answer to an entry, from its others alone: those before it and those after it, gone through in row order.
+fn others_answer(scale: f32, before: &[f32], after: &[f32]) -> f32
+    ensures { λ r. ⌜ r ≡ othersAnswer scale (now (before .entry) ++ now (after .entry)) ⌝ }
 {
-    let mut least = 1.0 / 0.0;
-    let mut sign = 1.0;
+    let sign = sign_from(sign_from(1.0, before), after);
+    scale * sign * least_from(least_from(1.0 / 0.0, before), after)
+}
+
+// The second engine of min-sum: for each entry it goes through the other entries for their least magnitude and their sign.
+pub fn min_sum_by_others(scale: f32, messages: &[f32], answers: &mut [f32])
+    requires { ⌜ length (now answers) ≡ length (now messages) ⌝ }
+    ensures { λ _. ⌜ now (answers .exit) ≡ othersSum scale (now (messages .entry)) ⌝ }
+{
     let mut i = 0;
-    while i < part.len() {
-        let own = part[i];
-        let after = sign_from(sign, &part[i + 1..]);
-        part[i] = scale * after * least_from(least, &part[i + 1..]);
-        least = lesser(magnitude(own), least);
-        sign = turn_sign(own, sign);
+    while i < messages.len() {
+        answers[i] = others_answer(scale, &messages[..i], &messages[i + 1..]);
         i += 1;
     }
 }
 
-// The engine that the constant selects.
+// The messages of a check of at most 16 entries, in an array of their own.
+fn copied(part: &[f32]) -> [f32; 16]
+    requires { ⌜ length (now part) ≤ 16 ⌝ }
+    ensures { λ r. ⌜ take (length (now (part .entry))) r ≡ now (part .entry) ⌝ }
+    ensures { λ r. ⌜ length r ≡ 16 ⌝ }
+{
+    let mut messages = [0.0f32; 16];
+    let mut i = 0;
+    while i < part.len() {
+        messages[i] = part[i];
+        i += 1;
+    }
+    messages
+}
+
+// The second engine in place: the messages are copied, since each answer needs all the others. What equates it with the first is the theorem of both engines.
+fn replaced_by_others(scale: f32, part: &mut [f32])
+    requires { ⌜ length (now part) ≤ 16 ⌝ }
+    ensures { λ _. ⌜ now (part .exit) ≡ minSum scale (now (part .entry)) ⌝ }
+{
+    let messages = copied(part);
+    let n = part.len();
+    min_sum_by_others(scale, &messages[..n], part);
+}
+
+// The engine that the constant selects. The second takes checks of up to 16 entries, and the codes have none above 11.
 fn min_sum_selected(scale: f32, part: &mut [f32])
     ensures { λ _. ⌜ now (part .exit) ≡ minSum scale (now (part .entry)) ⌝ }
 {
     if BY_OTHERS {
-        min_sum_by_others(scale, part);
-    } else {
-        min_sum(scale, part);
+        if part.len() <= 16 {
+            replaced_by_others(scale, part);
+            return;
+        }
     }
+    min_sum(scale, part);
 }
 
 // What a rule does to the messages of one check together. Nothing above sees which engine answered min-sum: both have the contract that is used here.

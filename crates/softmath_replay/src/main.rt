@@ -1,4 +1,5 @@
-// Replays stored inputs through the float arithmetic of a round, and prints the bits of each result.
+// Replays stored inputs through the float arithmetic of a round, and prints the bits of each result. The min-sum records
+// come twice: for the first engine, and for the second.
 //
 // A record is 13 little-endian words. The first holds what to do, then how many floats follow (at most 11);
 // the second is the scale or the channel value; the others are the floats' bits.
@@ -99,6 +100,23 @@ fn check(rule: DecodeRule, floats: &mut [f32], n: usize) {
     }
 }
 
+fn step_by_others(scale: f32, messages: &[f32], answers: &mut [f32])
+    requires { ⌜ length (now answers) ≡ length (now messages) ⌝ }
+{
+    softmath::min_sum_by_others(scale, messages, answers);
+    print_floats(answers);
+}
+
+// Min-sum on the first n floats by the second engine.
+fn check_by_others(scale: f32, floats: &[f32], n: usize)
+    requires { ⌜ n ≤ 11 ⌝ }
+{
+    let mut answers = [0.0f32; 11];
+    if n <= floats.len() {
+        step_by_others(scale, &floats[..n], &mut answers[..n]);
+    }
+}
+
 // The decision sum, the decision as a word, and the work area with the new messages in it.
 fn bit(kind: SumKind, llr: f32, floats: &mut [f32], n: usize)
     requires { ⌜ n ≤ 11 ⌝ }
@@ -128,6 +146,8 @@ fn replay(bytes: &[u8; 52]) {
         4 => check(DecodeRule::Ft8, &mut floats, n),
         5 => bit(SumKind::Total, parameter, &mut floats, n),
         6 => bit(SumKind::Others, parameter, &mut floats, n),
+        7 => check_by_others(1.0, &floats, n),
+        8 => check_by_others(parameter, &floats, n),
         _ => {}
     }
 }

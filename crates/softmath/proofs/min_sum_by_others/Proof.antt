@@ -1,85 +1,57 @@
--- `softmath::min_sum_by_others` meets its contract, by the law of the two engines. The invariant: what is passed, with the answers of the rest from their others,
--- those passed folded once, is the answer. Assumes nothing.
-use mathlib.Core.List.{_++_, []}
-use mathlib.Core.Path.{_≡_, sym, _∙_}
+-- `softmath::min_sum_by_others` meets its contract. The invariant: the answers so far, with those of the entries that are left, each from its others, are the
+-- answer. Assumes nothing.
+use mathlib.Core.List.{_++_}
+use mathlib.Core.Path.{_≡_, refl, sym}
 use Prim.Native.Nat.{_-_, _≤_}
 use native.Mathlib.Omega.{arith}
-use lib.Ieee.{div, ofBits}
 use lib.ListN.{length, take, drop, length-set}
+use lib.Seq.{length-take-le}
+use Rattle.softmath.specs.CheckNode.{overOthers}
+use Rattle.softmath.specs.Others.{othersAnswer, othersSum}
+use Rattle.softmath.proofs.InPlace.{rest-whole}
+use Rattle.softmath.proofs.ByOthers.{others-more, others-done}
 use borrow.Author.Needs.{needs}
-use Rattle.softmath.proofs.ByOthers.{answersFrom, others-shared, same-answers, others-more, others-done}
-use Rattle.softmath.specs.CheckNode.{minSum}
-use Rattle.softmath.specs.Single.{foldFrom}
-use Rattle.softmath.specs.Others.{othersSum}
 use Rattle.softmath.proofs.min_sum_by_others.Statement.{statement}
 use Rattle.softmath.proofs.min_sum_by_others.Tie as tie
 
 abbrev Inv-loop : tie.InvT-loop
-Inv-loop scale part₀ least₀ sign₀ i₀ part least sign i = (i ≤ length part) × (length part ≡ length part₀) × (take i part ++ answersFrom scale least sign (drop i part) ≡ minSum scale part₀)
+Inv-loop scale messages answers₀ i₀ answers i =
+    (i ≤ length messages) × (length answers ≡ length messages)
+    × (take i answers ++ overOthers (othersAnswer scale) (take i messages) (drop i messages) ≡ othersSum scale messages)
 
 abbrev μ-loop : tie.MeasureT-loop
-μ-loop scale part₀ least₀ sign₀ i₀ part least sign i = length part₀ - i
+μ-loop scale messages answers₀ i₀ answers i = length messages - i
 
 loop-holds : tie.Need-loop-holds Inv-loop μ-loop
-unfolding othersSum div ofBits foldFrom
-loop-holds c = (omega arith, search needs, sym (same-answers _ _ ∙ others-shared _ [] _))
+unfolding othersSum
+loop-holds c = (omega arith, search needs, refl)
 
-mul-own : tie.Need-mul-own Inv-loop μ-loop
-mul-own c = search needs
+slice-aggregate-others-answer : tie.Need-slice-aggregate-others-answer Inv-loop μ-loop
+slice-aggregate-others-answer c = sym (length-take-le _ _ (c .before .before .loop .inv .0))
 
-slice-read-own : tie.Need-slice-read-own Inv-loop μ-loop
-slice-read-own c = search needs
+add-others-answer : tie.Need-add-others-answer Inv-loop μ-loop
+add-others-answer c = search needs
 
-add-sign-from : tie.Need-add-sign-from Inv-loop μ-loop
-add-sign-from c = search needs
+mul-others-answer : tie.Need-mul-others-answer Inv-loop μ-loop
+mul-others-answer c = search needs
 
-mul-sign-from : tie.Need-mul-sign-from Inv-loop μ-loop
-mul-sign-from c = search needs
+sub-others-answer : tie.Need-sub-others-answer Inv-loop μ-loop
+sub-others-answer c = search needs
 
-sub-sign-from : tie.Need-sub-sign-from Inv-loop μ-loop
-sub-sign-from c = search needs
+part-others-answer-start : tie.Need-part-others-answer-start Inv-loop μ-loop
+part-others-answer-start c = search needs
 
-part-sign-from-start : tie.Need-part-sign-from-start Inv-loop μ-loop
-part-sign-from-start c = search needs
+part-others-answer-end : tie.Need-part-others-answer-end Inv-loop μ-loop
+part-others-answer-end c = search needs
 
-part-sign-from-end : tie.Need-part-sign-from-end Inv-loop μ-loop
-part-sign-from-end c = search needs
+others-answer-requires : tie.Need-others-answer-requires Inv-loop μ-loop
+others-answer-requires c κs = search needs
 
-sign-from-requires : tie.Need-sign-from-requires Inv-loop μ-loop
-sign-from-requires c κs = search needs
+mul-answers : tie.Need-mul-answers Inv-loop μ-loop
+mul-answers c = search needs
 
-add-least-from : tie.Need-add-least-from Inv-loop μ-loop
-add-least-from c = search needs
-
-mul-least-from : tie.Need-mul-least-from Inv-loop μ-loop
-mul-least-from c = search needs
-
-sub-least-from : tie.Need-sub-least-from Inv-loop μ-loop
-sub-least-from c = search needs
-
-part-least-from-start : tie.Need-part-least-from-start Inv-loop μ-loop
-part-least-from-start c = search needs
-
-part-least-from-end : tie.Need-part-least-from-end Inv-loop μ-loop
-part-least-from-end c = search needs
-
-least-from-requires : tie.Need-least-from-requires Inv-loop μ-loop
-least-from-requires c κs = search needs
-
-mul-part : tie.Need-mul-part Inv-loop μ-loop
-mul-part c = search needs
-
-slice-write-part : tie.Need-slice-write-part Inv-loop μ-loop
-slice-write-part c = search needs
-
-magnitude-requires : tie.Need-magnitude-requires Inv-loop μ-loop
-magnitude-requires c κs = search needs
-
-lesser-requires : tie.Need-lesser-requires Inv-loop μ-loop
-lesser-requires c κs = search needs
-
-turn-sign-requires : tie.Need-turn-sign-requires Inv-loop μ-loop
-turn-sign-requires c κs = search needs
+slice-write-answers : tie.Need-slice-write-answers Inv-loop μ-loop
+slice-write-answers c = search needs
 
 add-i : tie.Need-add-i Inv-loop μ-loop
 add-i c = search needs
@@ -89,21 +61,18 @@ loop-less c = search needs
 
 loop-again : tie.Need-loop-again Inv-loop μ-loop
 loop-again c =
-    let size = c .before .before in
-    let leasts = size .before in
-    let signs = leasts .before .before .before in
-    let turn = signs .before .before .before .before in (
+    let turn = c .before .before .before in
+    let found = rw (rest-whole) at (c .others-answer .ensures) in (
+      omega arith,
       simp length-set (omega arith),
-      simp length-set (omega arith),
-      others-more _ _ _ _ _ _ _ _ _ _ _ (turn .loop-test .taken) (signs .sign-from .ensures) (leasts .least-from .ensures) (size .magnitude .ensures) (c .before .lesser .ensures)
-          (c .turn-sign .ensures) (turn .before .loop .inv .2),
+      rw (found) (others-more _ _ _ _ _ (turn .loop-test .taken) (turn .before .loop .inv .1) (turn .before .loop .inv .2)),
     )
 
 same-length : tie.Need-same-length Inv-loop μ-loop
 same-length c = search needs
 
 returns : tie.Need-returns Inv-loop μ-loop
-returns c = others-done _ _ _ _ _ _ (c .loop-test .left) (c .before .loop .inv .2)
+returns c = others-done _ _ _ _ _ (c .loop-test .left) (c .before .loop .inv .1) (c .before .loop .inv .2)
 
 pub min-sum-by-others-spec : {M : Type 1} → statement M
 min-sum-by-others-spec =
@@ -112,25 +81,15 @@ min-sum-by-others-spec =
     Inv-loop
     μ-loop
     loop-holds
-    mul-own
-    slice-read-own
-    add-sign-from
-    mul-sign-from
-    sub-sign-from
-    part-sign-from-start
-    part-sign-from-end
-    sign-from-requires
-    add-least-from
-    mul-least-from
-    sub-least-from
-    part-least-from-start
-    part-least-from-end
-    least-from-requires
-    mul-part
-    slice-write-part
-    magnitude-requires
-    lesser-requires
-    turn-sign-requires
+    slice-aggregate-others-answer
+    add-others-answer
+    mul-others-answer
+    sub-others-answer
+    part-others-answer-start
+    part-others-answer-end
+    others-answer-requires
+    mul-answers
+    slice-write-answers
     add-i
     loop-less
     loop-again
