@@ -60,17 +60,18 @@ part-size l at k h =
     rw e (length-take-le k (drop at l) (simp length-drop (omega arith)))
 
 -- a part written behind what is there already, where all stays as long as it was
-module _ {A : Type 0} (bits own : List A) (at k : ℕ) (h : at + k ≤ length bits) (same : length (take at bits ++ (own ++ drop (at + k) bits)) ≡ length bits) where
-  own-size : length own ≡ k
-  own-size =
-      let all = length-append (take at bits) (own ++ drop (at + k) bits) in
-      omega (arith, length-take-le at bits (omega arith), length-append own (drop (at + k) bits), length-drop (at + k) bits)
+module _ {A : Type 0} (bits own : List A) (at k : ℕ) (h : at + k ≤ length bits) (same : length (take at bits ++ (own ++ drop (at + k) bits)) ≡ length bits)
+  where
+    own-size : length own ≡ k
+    own-size =
+        let all = length-append (take at bits) (own ++ drop (at + k) bits) in
+        omega (arith, length-take-le at bits (omega arith), length-append own (drop (at + k) bits), length-drop (at + k) bits)
 
-  pub written-more : (goal rest : List A) → take at bits ++ (own ++ rest) ≡ goal → take (at + k) (take at bits ++ (own ++ drop (at + k) bits)) ++ rest ≡ goal
-  written-more goal rest e =
-      let d = drop (at + k) bits in
-      let a : length (take at bits ++ own) ≡ at + k = simp length-append (omega (arith, length-take-le at bits (omega arith), own-size)) in
-      rw (← append-assoc (take at bits) own d, take-at (take at bits ++ own) d (at + k) a, append-assoc (take at bits) own rest) e
+    pub written-more : (goal rest : List A) → take at bits ++ (own ++ rest) ≡ goal → take (at + k) (take at bits ++ (own ++ drop (at + k) bits)) ++ rest ≡ goal
+    written-more goal rest e =
+        let d = drop (at + k) bits in
+        let a : length (take at bits ++ own) ≡ at + k = simp length-append (omega (arith, length-take-le at bits (omega arith), own-size)) in
+        rw (← append-assoc (take at bits) own d, take-at (take at bits ++ own) d (at + k) a, append-assoc (take at bits) own rest) e
 
 -- the part of k places from j times k on, as the loan of it comes back
 pub part-placed : {A : Type 0} (l : List A) (j : ℕ) {k size : ℕ} {part own : List A} → k ≡ size → part ≡ own
@@ -90,7 +91,8 @@ pub record Column (f : List Float → ℕ) (values : List Float) (ps : List Pair
 pub column-none : (f : List Float → ℕ) (values : List Float) (ps : List Pair) (out : List ℕ) → length out ≡ length ps → Column f values ps 0 out
 column-none f values ps out size = record { size = size; front = refl }
 
-pub column-done : (f : List Float → ℕ) (values : List Float) (ps : List Pair) (j : ℕ) (out : List ℕ) → length ps ≤ j → Column f values ps j out → out ≡ map f (framesOf values ps)
+pub column-done : (f : List Float → ℕ) (values : List Float) (ps : List Pair) (j : ℕ) (out : List ℕ) → length ps ≤ j → Column f values ps j out
+    → out ≡ map f (framesOf values ps)
 column-done f values ps j out h c =
     let all = column-length f values ps in
     fill-done (map f (framesOf values ps)) 0 out j (omega (arith, all)) (c .size ∙ sym all) (c .front)
@@ -138,7 +140,8 @@ module _ (values : List Float) (ps : List Pair) (n j : ℕ) (w : AllWithin n (le
   bits-next f = rw own-next
 
 -- the values from an offset on, as a part of the slice
-pub part-frame : (values : List Float) (offset : ℕ) {n size : ℕ} → n ≡ size → take (offset + n - offset) (drop offset values) ≡ frameOf values (pair offset size)
+pub part-frame : (values : List Float) (offset : ℕ) {n size : ℕ} → n ≡ size
+    → take (offset + n - offset) (drop offset values) ≡ frameOf values (pair offset size)
 unfolding frameOf
 part-frame values offset {size = size} e =
     let s : offset + size - offset ≡ size = omega arith in
@@ -162,7 +165,8 @@ module _ (values : List Float) (pairs : List ℕ) (n j : ℕ) (w : AllWithin n (
   frames-next = rw (part-frame values offset {n = n} refl, ← offset-is) (own-next values (pairsOf pairs) n j w h)
 
 -- after the last frame
-pub bits-end : (f : List Float → List ℕ) (frames : List (List Float)) (j : ℕ) (front goal : List ℕ) → length frames ≤ j → front ++ joined (map f (drop j frames)) ≡ goal → front ≡ goal
+pub bits-end : (f : List Float → List ℕ) (frames : List (List Float)) (j : ℕ) (front goal : List ℕ) → length frames ≤ j
+    → front ++ joined (map f (drop j frames)) ≡ goal → front ≡ goal
 unfolding joined
 bits-end f frames j front goal h e = sym (append-nil front) ∙ rw (drop-of-length-le frames h) at e
 
@@ -257,7 +261,8 @@ module _ {b : Batch} (fit : Fitting b) where
           })
 
     -- after the last frame, the work area cleared
-    pub going-done : length (b .pairs) ≤ j → {work : List Float} → work ≡ cleared (l .work) → lent (l .bits) (l .counts) (l .rounds) (l .firsts) work ≡ written b
+    pub going-done : length (b .pairs) ≤ j → {work : List Float} → work ≡ cleared (l .work)
+        → lent (l .bits) (l .counts) (l .rounds) (l .firsts) work ≡ written b
     unfolding written
     going-done h e =
         let all : j ≡ length (b .pairs) = omega (arith, g .upto) in

@@ -92,7 +92,8 @@ module _ (n values : ℕ) where
       after-tests (pairTests n values end p) next ps (pairRefusals n values next ps) (seen-pairs next ps)
 
   -- one pair more, and none more
-  pub seen-more : (s : Outcome ℕ) {t : Outcome ℕ} {z : Outcome Unit} (p : Pair) (ps : List Pair) → t ≡ nextSeen n values s p → seenFrom n values s (p ∷ ps) ≡ z → seenFrom n values t ps ≡ z
+  pub seen-more : (s : Outcome ℕ) {t : Outcome ℕ} {z : Outcome Unit} (p : Pair) (ps : List Pair) → t ≡ nextSeen n values s p
+      → seenFrom n values s (p ∷ ps) ≡ z → seenFrom n values t ps ≡ z
   unfolding seenFrom
   seen-more s p ps e z = rw e z
 

@@ -8,10 +8,11 @@ use native.Mathlib.Nat.{suc-mul, zero-mul}
 use native.Mathlib.Omega.{arith}
 use lib.Dec.{eqb, ltb}
 use lib.Ieee.{Float}
-use lib.ListN.{length, getD, take, drop, length-map, length-take, length-drop}
-use lib.Seq.{take-at, drop-append-add, length-take-le, getD-take}
+use lib.ListN.{length, getD, take, drop, length-map, length-drop}
+use lib.Seq.{take-at, drop-append-add, length-take-le}
 use Rattle.tanner.specs.Checks.{Word, count, firstUnsatisfied}
 use Rattle.tanner.specs.Flat.{joined, Below}
+use Rattle.tanner.proofs.Below.{below-take}
 use Rattle.construction.specs.Codes.{Code, blockLength}
 use Rattle.staircase.specs.Codes.{codeOf, columns, checks}
 use Rattle.staircase.specs.Staircase.{encoded}
@@ -21,7 +22,24 @@ use Rattle.ldpc.proofs.PackedWords.{codewords}
 use Rattle.refusal.specs.Outcome.{Outcome}
 use Rattle.refusal.proofs.Judged.{verdict, nothing}
 use Rattle.softmath.specs.declared.DecodeRule.{DecodeRule}
-use Rattle.belief.specs.Rounds.{Decode, answers, decidedFrom, decided, sent, initialWord, firstMessages, wordsFrom, roundWords, better, chosenFrom, chosen, chosenCount, chosenFirst, chosenBits, roundsRun}
+use Rattle.belief.specs.Rounds.{
+  Decode,
+  answers,
+  decidedFrom,
+  decided,
+  sent,
+  initialWord,
+  firstMessages,
+  wordsFrom,
+  roundWords,
+  better,
+  chosenFrom,
+  chosen,
+  chosenCount,
+  chosenFirst,
+  chosenBits,
+  roundsRun,
+}
 use Rattle.belief.proofs.AtGraph.{initial-bits, initial-length, word-bits}
 use Rattle.belief.proofs.Words.{chosen-first, count-falls, same-chosen}
 use Rattle.belief.proofs.RoundsRun.{rounds-lesser, rounds-within}
@@ -42,12 +60,6 @@ pub record Proper (n : ℕ) (w : Word) : Type 0 where
 data AllProper (n : ℕ) : List Word → Type 0 where
   none : AllProper n []
   more : {w : Word} {ws : List Word} → Proper n w → AllProper n ws → AllProper n (w ∷ ws)
-
-taken-below : (n k : ℕ) (w : Word) → Below n w → Below n (take k w)
-unfolding Below
-taken-below n k w b i q =
-    let low : i < k = omega (arith, length-take k w) in
-    rw (getD-take k w i 0 low) (b i (omega (arith, length-take k w)))
 
 module _ (d : Decode) where
   decided-size : (ans : List Float) (p : ℕ) (l : List Float) → length (decidedFrom d ans p l) ≡ length l
@@ -71,7 +83,8 @@ module _ (d : Decode) where
   better-proper true p q = q
   better-proper false p q = p
 
-  chosen-from-proper : (k : Word) {ws : List Word} → Proper (length (d .llr)) k → AllProper (length (d .llr)) ws → Proper (length (d .llr)) (chosenFrom (d .checks) k ws)
+  chosen-from-proper : (k : Word) {ws : List Word} → Proper (length (d .llr)) k → AllProper (length (d .llr)) ws
+      → Proper (length (d .llr)) (chosenFrom (d .checks) k ws)
   unfolding chosenFrom
   chosen-from-proper k p none = p
   chosen-from-proper k p (more {w = w} q qs) =
@@ -91,7 +104,8 @@ map-at f (x ∷ l) zero a b h = refl
 map-at f (x ∷ l) (suc j) a b h = map-at f l j a b (omega arith)
 
 -- of lists of one length, laid one after another, the one at place j
-joined-at : (k : ℕ) (ls : List (List ℕ)) → ((i : ℕ) → i < length ls → length (getD ls i []) ≡ k) → (j : ℕ) → j < length ls → take k (drop (j * k) (joined ls)) ≡ getD ls j []
+joined-at : (k : ℕ) (ls : List (List ℕ)) → ((i : ℕ) → i < length ls → length (getD ls i []) ≡ k) → (j : ℕ) → j < length ls
+    → take k (drop (j * k) (joined ls)) ≡ getD ls j []
 unfolding joined
 joined-at k [] size j h = absurd (omega arith)
 joined-at k (l ∷ ls) size zero h = rw zero-mul (take-at l (joined ls) k (size 0 (omega arith)))
@@ -157,7 +171,8 @@ module _ (c : Call) (ok : Accepted c) where
       let f = frameBits b in
       let k = sizeK (b .code) in
       let many : length (map f (frames b)) ≡ held c = length-map (frames b) f ∙ length-map (b .pairs) (frameOf (b .values)) in
-      let at : (i : ℕ) → i < length (map f (frames b)) → getD (map f (frames b)) i [] ≡ f (getD (frames b) i []) = λ i q. map-at f (frames b) i [] [] (omega (arith, length-map (frames b) f)) in
+      let at : (i : ℕ) → i < length (map f (frames b)) → getD (map f (frames b)) i [] ≡ f (getD (frames b) i []) =
+      λ i q. map-at f (frames b) i [] [] (omega (arith, length-map (frames b) f)) in
       ap (λ (l : Lent). take k (drop (j * k) (l .bits))) left-is
       ∙ joined-at k (map f (frames b)) (λ i q. ap length (at i q) ∙ front-size i (omega arith)) j (omega arith) ∙ at j (omega arith)
 
@@ -174,7 +189,7 @@ module _ (c : Code) (w : Word) (p : Proper (blockLength c) w) where
   encoding-zero e =
       ap (count (checks c)) e
       ∙ count-encoded (c .k) (c .m) (columns c) (omega (arith, columns-length c)) (take (c .k) w) (length-take-le (c .k) w (omega (arith, p .long)))
-      (taken-below 2 (c .k) w (p .bits))
+      (below-take 2 (c .k) w (p .bits))
 
 -- and so has a word of each of the four codes
 module _ (r : DecodeRule) (llr : List Float) (w : Word) where
@@ -223,7 +238,7 @@ module _ (c : Call) (ok : Accepted c) (j : ℕ) (h : j < held c) where
       let k = sizeK (c .handed .code) in
       record {
         long = ap length front ∙ length-take-le k w (omega (arith, proper .long, size-small (c .handed .code) .front));
-        bits = subst (Below 2) (sym front) (taken-below 2 k w (proper .bits));
+        bits = subst (Below 2) (sym front) (below-take 2 k w (proper .bits));
       }
 
   by-chosen-word : ByChosenWord c j

@@ -1,6 +1,6 @@
 -- The four code numbers of a batch: sizes, what is decoded, and the encoding.
 use mathlib.Core.List.{List}
-use Prim.Native.Nat.{ℕ, zero, suc, _+_}
+use Prim.Native.Nat.{ℕ, zero, suc}
 use lib.Ieee.{Float}
 use Rattle.construction.specs.Codes.{Code, blockLength}
 use Rattle.staircase.specs.Codes.{codeOf, columns}

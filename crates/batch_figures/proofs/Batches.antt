@@ -84,7 +84,8 @@ module _ (c : Call) (ok : Accepted c) where
   not-refused =
       let v = agreed c ok in
       let good = all-good (b .code) (b .rule) (length (b .values)) (b .pairs) (roomOf (b .memory)) v in
-      let pairs = accepted-rest (headRefusals (b .code) (b .rule) (held c) (roomOf (b .memory))) (pairRefusals (sizeN (b .code)) (length (b .values)) 0 (b .pairs)) v in
+      let pairs =
+      accepted-rest (headRefusals (b .code) (b .rule) (held c) (roomOf (b .memory))) (pairRefusals (sizeN (b .code)) (length (b .values)) 0 (b .pairs)) v in
       rw (
         le-ltb 3 (b .code) (omega (arith, good .known)),
         le-ltb 24 (held c) (good .few),

@@ -35,10 +35,12 @@ unfolding three one frame batchFrames framesFrom frameOf frameClean anyNan isNan
 its-frames = refl
 
 its-total : added nothingYet (three (0 ∷ 20 ∷ 3 ∷ [])) ≡ accepted (total 3 1 5 23)
-unfolding three one total batchFrames framesFrom frameOf frameClean anyNan isNan checksumRight lowBits qex divide bringDown numberAfter sizeN sizeK ofBits ofFields totalsOf resultRefusals pairRefusals
+unfolding three one total batchFrames framesFrom frameOf frameClean anyNan isNan checksumRight lowBits qex divide bringDown numberAfter sizeN sizeK ofBits
+    ofFields totalsOf resultRefusals pairRefusals
 its-total = refl
 
 -- a total near its limit, and an output that is a place short
 refusals : (added (total 0 0 0 18446744073709551593) (three (0 ∷ 20 ∷ 3 ∷ [])) ≡ refused 14) × (added nothingYet (three (0 ∷ 20 ∷ [])) ≡ refused 8)
-unfolding three one total batchFrames framesFrom frameOf frameClean anyNan isNan checksumRight lowBits qex divide bringDown numberAfter sizeN sizeK ofBits ofFields totalsOf resultRefusals pairRefusals
+unfolding three one total batchFrames framesFrom frameOf frameClean anyNan isNan checksumRight lowBits qex divide bringDown numberAfter sizeN sizeK ofBits
+    ofFields totalsOf resultRefusals pairRefusals
 refusals = (refl, refl)

@@ -1,7 +1,8 @@
--- Of more pairs than 24 it is enough to hand on 25: refusals 1, 2 and 3 do not read the pairs, and 7 holds of both. By cases on the pairs' number. Assumes nothing.
-use mathlib.Core.Path.{_≡_, refl, sym, ap, ap₂, _∙_}
+-- Of more pairs than 24 it is enough to hand on 25: refusals 1, 2 and 3 do not read the pairs, and 7 holds of both. By cases on the pairs' number. Assumes
+-- nothing.
+use mathlib.Core.Path.{_≡_, refl, sym, ap, ap₂}
 use mathlib.Core.Bool.{Bool, true, false}
-use mathlib.Core.List.{List, [], _∷_}
+use mathlib.Core.List.{List, _∷_}
 use Prim.Native.Nat.{ℕ, zero, suc, _+_, _*_, _<_, _≤_, min}
 use native.Mathlib.Omega.{arith}
 use borrow.Author.Tests.{lt-ltb, ltb-true, ltb-false}
@@ -62,7 +63,8 @@ module _ (s : List ℕ) (room : Room) (exact : pairCount s < 25 → room ≡ roo
   abbrev found : List ℕ → Room → Outcome Unit
   found numbers r = verdict (refusalsOf (codeOf s) (ruleOf s) (length (valuesOf s)) (pairsOf numbers) r)
 
-  over : (numbers : List ℕ) (r : Room) → 25 ≤ length (pairsOf numbers) → (numbers′ : List ℕ) (r′ : Room) → 25 ≤ length (pairsOf numbers′) → found numbers r ≡ found numbers′ r′
+  over : (numbers : List ℕ) (r : Room) → 25 ≤ length (pairsOf numbers) → (numbers′ : List ℕ) (r′ : Room) → 25 ≤ length (pairsOf numbers′)
+      → found numbers r ≡ found numbers′ r′
   unfolding refusalsOf
   over numbers r h numbers′ r′ h′ = simp (lt-ltb 24 (length (pairsOf numbers)) h, lt-ltb 24 (length (pairsOf numbers′)) h′)
 

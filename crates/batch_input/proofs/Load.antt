@@ -26,7 +26,8 @@ module _ {A : Type 0} (f : ℕ → A) (s : List ℕ) where
       let e : at + 4 + 4 * n ≡ at + 4 * suc n = omega arith in
       ap (λ (l : List A). f (u32At s at) ∷ l) (rw e at (words-more (at + 4) n))
 
-  pub load-more : (at : ℕ) (out : List A) (i : ℕ) (v : A) → i < length out → v ≡ f (u32At s (at + 4 * i)) → take i out ≡ u32sFrom f s at i → take (i + 1) (set out i v) ≡ u32sFrom f s at (i + 1)
+  pub load-more : (at : ℕ) (out : List A) (i : ℕ) (v : A) → i < length out → v ≡ f (u32At s (at + 4 * i)) → take i out ≡ u32sFrom f s at i
+      → take (i + 1) (set out i v) ≡ u32sFrom f s at (i + 1)
   load-more at out i v h e t = rw (add-one i, take-suc-set out i v h, words-more at i, t, e)
 
   pub load-none : (at : ℕ) (out : List A) → take 0 out ≡ u32sFrom f s at 0

@@ -1,20 +1,13 @@
 -- What an input has that is not malformed, condition by condition. Assumes nothing.
-use mathlib.Core.Path.{_≡_, refl}
-use mathlib.Core.Bool.{Bool, true, false, not, _||_}
+use mathlib.Core.Path.{_≡_}
+use mathlib.Core.Bool.{false, not, _||_}
 use mathlib.Core.List.{List}
+use mathlib.Mathlib.Data.Bool.Basic.{or-eq-false-eq-eq-false-and-eq-false as or-is-false}
 use Prim.Native.Nat.{ℕ, _≤_}
 use borrow.Author.Tests.{ltb-false}
 use lib.Dec.{ltb, eqb}
 use lib.ListN.{length, getD}
 use Rattle.batch_input.specs.Input.{valuesStart, malformed}
-
-or-left : (a b : Bool) → (a || b) ≡ false → a ≡ false
-or-left true b h = h
-or-left false b h = refl
-
-or-right : (a b : Bool) → (a || b) ≡ false → b ≡ false
-or-right true b h = cc
-or-right false b h = h
 
 pub record Wellformed (s : List ℕ) : Type 0 where
   pub short : length s ≤ 65536
@@ -29,10 +22,12 @@ wellformed s h =
     let filler = not (eqb (getD s 10 0) 0) in
     let filler2 = not (eqb (getD s 11 0) 0) in
     let pair = ltb (length s) (valuesStart s) in
-    let five = or-left (long || cut || filler || filler2 || pair) _ h in
-    let two = or-left (long || cut) filler (or-left (long || cut || filler) filler2 (or-left (long || cut || filler || filler2) pair five)) in
+    let five = or-is-false (long || cut || filler || filler2 || pair) _ .0 h .0 in
+    let last = or-is-false (long || cut || filler || filler2) pair .0 five in
+    let three = or-is-false (long || cut || filler) filler2 .0 (last .0) .0 in
+    let two = or-is-false long cut .0 (or-is-false (long || cut) filler .0 three .0) in
     record {
-      short = ltb-false 65536 (length s) (or-left long cut two);
-      head = ltb-false (length s) 12 (or-right long cut two);
-      pairs = ltb-false (length s) (valuesStart s) (or-right (long || cut || filler || filler2) pair five);
+      short = ltb-false 65536 (length s) (two .0);
+      head = ltb-false (length s) 12 (two .1);
+      pairs = ltb-false (length s) (valuesStart s) (last .1);
     }

@@ -63,7 +63,8 @@ pub bits-at : (m : List ℕ) (n : ℕ) → n < 8 * length m → getD (bits m) n 
 bits-at [] n h = absurd (omega arith)
 bits-at (b ∷ m) n h = by (decLt n 8) (λ k. bits-at m (n - 8) k)
   where
-    by : Dec (n < 8) → (n - 8 < 8 * length m → getD (bits m) (n - 8) 0 ≡ getD m ((n - 8) / 8) 0 / 2 ^ (7 - (n - 8) % 8) % 2) → getD (bits (b ∷ m)) n 0 ≡ getD (b ∷ m) (n / 8) 0 / 2 ^ (7 - n % 8) % 2
+    by : Dec (n < 8) → (n - 8 < 8 * length m → getD (bits m) (n - 8) 0 ≡ getD m ((n - 8) / 8) 0 / 2 ^ (7 - (n - 8) % 8) % 2)
+        → getD (bits (b ∷ m)) n 0 ≡ getD (b ∷ m) (n / 8) 0 / 2 ^ (7 - n % 8) % 2
     by (yes k) further = first-at b m n k
     by (no k) further =
         let past : n ≡ 8 + (n - 8) = omega arith in

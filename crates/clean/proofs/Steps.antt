@@ -1,8 +1,8 @@
 -- The loops over values and bits, step by step: one more value, one more bit of the checksum, one more digit of a number.
 use mathlib.Core.Path.{_≡_, refl, sym, ap, subst, _∙_}
-use mathlib.Core.Bool.{Bool, true, false, _||_}
+use mathlib.Core.Bool.{true, false}
 use mathlib.Core.List.{List, [], _∷_, _++_}
-use Prim.Native.Nat.{ℕ, zero, suc, _+_, _-_, _*_, _%_, _≤_, _<_, _^_}
+use Prim.Native.Nat.{ℕ, _+_, _-_, _*_, _%_, _≤_, _<_, _^_}
 use native.Mathlib.Nat.{mod-lt}
 use native.Mathlib.Numerals.{add-one}
 use native.Mathlib.Decide.{decLt}
@@ -12,7 +12,7 @@ use lib.Dec.{T}
 use lib.Ieee as Ieee
 use lib.Ieee.{Float, isNan, nan, inf, fin}
 use lib.Ieee.Compare.{differs-from-itself, nan-differs}
-use lib.ListN.{length, getD, take, drop, replicate, length-append, length-map, length-replicate, getD-replicate, List·getD-append, List·getD-eq-default}
+use lib.ListN.{length, getD, take, drop, replicate, length-append, getD-replicate, List·getD-append, List·getD-eq-default}
 use lib.Pow.{pow-mono, pow-add}
 use lib.Seq.{take-suc, take-all, drop-length, drop-cons, getD-append-add}
 use Rattle.bits.specs.Bits.{number, numberAfter}
@@ -91,7 +91,8 @@ module _ (bs : List ℕ) where
   unfolding qex divide bringDown
   checksum-start = refl
 
-  pub checksum-more : (i b : ℕ) → i < length bs + 5 → b ≡ getD (lowBits bs) i 0 → b < 2 → turn (bitXor (qex (take i padded)) (b * 8192)) % 16384 ≡ qex (take (i + 1) padded)
+  pub checksum-more : (i b : ℕ) → i < length bs + 5 → b ≡ getD (lowBits bs) i 0 → b < 2
+      → turn (bitXor (qex (take i padded)) (b * 8192)) % 16384 ≡ qex (take (i + 1) padded)
   unfolding lowTurn
   checksum-more i b h e low =
       let one : take (i + 1) padded ≡ take i padded ++ (getD padded i 0 ∷ []) = rw (add-one i) (take-suc padded i 0 (rw padded-length h)) in
@@ -101,7 +102,9 @@ module _ (bs : List ℕ) where
   -- ---- a number, one digit more
   pub number-more : (i b : ℕ) → i < length bs → b ≡ getD (lowBits bs) i 0 → number (take i (lowBits bs)) * 2 + b ≡ number (take (i + 1) (lowBits bs))
   unfolding numberAfter
-  number-more i b h e = sym (rw (add-one i) (ap number (take-suc (lowBits bs) i 0 (rw (low-length bs) h))) ∙ number-append 0 (take i (lowBits bs)) (getD (lowBits bs) i 0 ∷ []) ∙ rw e)
+  number-more i b h e =
+      sym (rw (add-one i) (ap number (take-suc (lowBits bs) i 0 (rw (low-length bs) h))) ∙ number-append 0 (take i (lowBits bs)) (getD (lowBits bs) i 0 ∷ [])
+      ∙ rw e)
 
   pub all-digits : (i : ℕ) → length bs ≤ i → take i (lowBits bs) ≡ lowBits bs
   all-digits i h = take-all i (lowBits bs) (rw (low-length bs) h)

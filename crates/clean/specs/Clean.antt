@@ -1,6 +1,6 @@
 -- When a frame is clean. (Change request N2: "A frame is clean when its count is 0, none of its values is NaN, and, for code 3, the checksum that
 -- `ft8_add_crc` would store for its 77 payload bits equals the one it carries.")
-use mathlib.Core.Bool.{Bool, true, false, not, _&&_, _||_}
+use mathlib.Core.Bool.{Bool, false, not, _&&_, _||_}
 use mathlib.Core.List.{List, [], _∷_, _++_}
 use Prim.Native.Nat.{ℕ}
 use lib.Dec.{eqb}

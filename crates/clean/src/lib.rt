@@ -1,10 +1,9 @@
 // Whether a decoded frame is clean.
 ghost use mathlib.Core.Path.{_≡_};
-ghost use mathlib.Core.Bool.{true, _||_};
+ghost use mathlib.Core.Bool.{true};
 ghost use mathlib.Core.List.{_++_};
 ghost use Prim.Native.Nat.{_+_, _*_, _%_, _≤_, _<_};
 ghost use lib.Bits.{bitXor};
-ghost use lib.Ieee.{isNan};
 ghost use lib.ListN.{length, getD, replicate};
 ghost use Rattle.bits.specs.Bits.{number};
 ghost use Rattle.crc.specs.Register.{turn};

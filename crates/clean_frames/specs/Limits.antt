@@ -11,7 +11,8 @@ use Rattle.clean.specs.Clean.{frameClean}
 
 -- whether a frame of these values is clean under a limit
 unfoldable pub cleanUnder : ℕ → ℕ → Float → List Float → ℕ → Bool
-cleanUnder code rule scale values limit = let d = decodeOf code rule scale values in frameClean code values (chosenCount d limit) (chosenBits d limit (sizeK code))
+cleanUnder code rule scale values limit =
+    let d = decodeOf code rule scale values in frameClean code values (chosenCount d limit) (chosenBits d limit (sizeK code))
 
 -- whether the frame at place j of a call is, by what the call left
 unfoldable pub cleanAt : Call → ℕ → Bool

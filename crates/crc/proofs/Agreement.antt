@@ -60,7 +60,8 @@ module _ (m : List ℕ) (n : ℕ) where
       let fewer : 7 - n % 8 ≡ 8 - suc n % 8 = omega arith in
       let up : suc (6 + n % 8) ≡ 6 + suc n % 8 = omega arith in
       mul-assoc (byteAt m n % 2 ^ (7 - n % 8)) (2 ^ (6 + n % 8)) 2
-      ∙ ap₂ (λ (x y : ℕ). x * y) (ap₂ (λ (x y : ℕ). getD m x 0 % 2 ^ y) same fewer ∙ sym (unused-inside m (suc n) inside)) (sym (pow-suc 2 (6 + n % 8)) ∙ ap (λ (x : ℕ). 2 ^ x) up)
+      ∙ ap₂ (λ (x y : ℕ). x * y) (ap₂ (λ (x y : ℕ). getD m x 0 % 2 ^ y) same fewer ∙ sym (unused-inside m (suc n) inside))
+      (sym (pow-suc 2 (6 + n % 8)) ∙ ap (λ (x : ℕ). 2 ^ x) up)
   left-over (no k) =
       let none : 7 - n % 8 ≡ 0 = omega arith in
       let start : suc n % 8 ≡ 0 = omega arith in

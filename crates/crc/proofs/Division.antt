@@ -6,9 +6,9 @@ use Prim.Native.Nat.{ℕ, zero, suc, _+_, _*_, _/_, _%_, _^_, _<_}
 use native.Mathlib.Nat.{mod-eq-of-lt}
 use native.Mathlib.Omega.{arith}
 use lib.Bits.{bitXor, xor-lt, xor-mod, xor-block, xor-self, xor-shifted, xor-zero-r}
-use lib.ListN.{replicate, take}
+use lib.ListN.{replicate}
 use lib.Pow.{mod-mod-pow}
-use Rattle.bits.proofs.AreBits.{AreBits, none, more, areBits-append, areBits-take, zeros-are}
+use Rattle.bits.proofs.AreBits.{AreBits, none, more, areBits-append}
 use Rattle.crc.specs.Qex.{bringDown, divide, qex}
 use Rattle.crc.specs.Register.{turn}
 use Rattle.crc.proofs.Xor.{xor-right}

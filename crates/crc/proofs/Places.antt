@@ -43,7 +43,9 @@ cleared-bits x h =
 abbrev lastThree : ℕ → ℕ → List ℕ
 lastThree x c = (x / 8 * 8 + c / 2 ^ 11) ∷ (c / 2 ^ 3 % 256) ∷ (c % 8 * 32) ∷ []
 
-cut-tail : (a b d e : ℕ) → packed 3 (bitsOf 5 a ++ ((bitsOf 3 b ++ (bitsOf 8 d ++ bitsOf 3 e)) ++ replicate 5 0)) ≡ number (bitsOf 5 a ++ bitsOf 3 b) ∷ number (bitsOf 8 d) ∷ number (bitsOf 3 e ++ replicate 5 0) ∷ []
+cut-tail : (a b d e : ℕ)
+    → packed 3 (bitsOf 5 a ++ ((bitsOf 3 b ++ (bitsOf 8 d ++ bitsOf 3 e)) ++ replicate 5 0)) ≡ number (bitsOf 5 a ++ bitsOf 3 b) ∷ number (bitsOf 8 d)
+    ∷ number (bitsOf 3 e ++ replicate 5 0) ∷ []
 unfolding packed bitsOf numberAfter
 cut-tail a b d e = refl
 

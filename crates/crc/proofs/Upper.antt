@@ -39,7 +39,8 @@ upper-taken r byte h =
     ∙ ap (λ (n : ℕ). n * 2 ^ 18) (sym (xor-mod r (byte * 2 ^ 6) 14 ∙ ap (bitXor (r % 2 ^ 14)) (mod-eq-of-lt (omega arith)))))
 
 -- the first bits of byte k, one or more
-pub up-byte : (m : List ℕ) (k : ℕ) → getD m k 0 < 256 → (j : ℕ) → j < 8 → turnsUp (suc j) (takenIn (upper (register m (8 * k))) (getD m k 0)) ≡ upper (register m (8 * k + suc j))
+pub up-byte : (m : List ℕ) (k : ℕ) → getD m k 0 < 256 → (j : ℕ) → j < 8
+    → turnsUp (suc j) (takenIn (upper (register m (8 * k))) (getD m k 0)) ≡ upper (register m (8 * k + suc j))
 unfolding turnsUp register
 up-byte m k byte zero h =
     let start : 8 * k % 8 ≡ 0 = omega arith in

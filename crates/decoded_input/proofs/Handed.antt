@@ -37,7 +37,8 @@ pub room-right : (code n b c r f w : ℕ) → b ≡ n * sizeK code → c ≡ n �
     → _≡_ {A = Room} (record { bits = b; counts = c; rounds = r; firsts = f; work = w }) (roomOf (memoryFor code n))
 room-right code n b c r f w eb ec er ef ew = cc (room-for code n)
 
-pub sizes-given : {n k size bits : ℕ} → n ≡ k → size ≡ bits → _≡_ {A = Outcome Sizes} (accepted (record { frames = n; bits = size })) (accepted (record { frames = k; bits = bits }))
+pub sizes-given : {n k size bits : ℕ} → n ≡ k → size ≡ bits
+    → _≡_ {A = Outcome Sizes} (accepted (record { frames = n; bits = size })) (accepted (record { frames = k; bits = bits }))
 sizes-given e f = rw (e, f)
 
 -- an array's front, by the size that was answered

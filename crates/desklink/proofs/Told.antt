@@ -33,28 +33,36 @@ pub told-few : (cs : List Condition) (r : Report) (most : ℕ) → r .cycles < m
 told-few [] r most h = h
 told-few (c ∷ cs) r most h = by (c .holds) (told-few cs r most h)
   where
-    by : (b : Bool) → toldIn (λ (q : Report). q .cycles) (judged cs r) 0 < most → toldIn (λ (q : Report). q .cycles) (cond b (refused (c .number)) (judged cs r)) 0 < most
+    by : (b : Bool) → toldIn (λ (q : Report). q .cycles) (judged cs r) 0 < most
+        → toldIn (λ (q : Report). q .cycles) (cond b (refused (c .number)) (judged cs r)) 0 < most
     by true rest = omega arith
     by false rest = rest
 
-pub decode-told : (s : decoders.Single) {answer : Outcome Told} {bits : List ℕ} {work : List Float} {z n : ℤ} {rounds first : Lent} → decoders.Answered s answer bits work → Decodes answer z rounds first → n ≡ z → DecodeCall s n rounds first bits work
+pub decode-told : (s : decoders.Single) {answer : Outcome Told} {bits : List ℕ} {work : List Float} {z n : ℤ} {rounds first : Lent}
+    → decoders.Answered s answer bits work → Decodes answer z rounds first → n ≡ z → DecodeCall s n rounds first bits work
 decode-told s {answer} {bits} {work} {z} {n} {rounds} {first} a d read = record {
-  tells = subst (λ (o : Outcome Told). Decodes o n rounds first) (a .tells) (record { itsCount = read ∙ d .itsCount; itsRounds = d .itsRounds; itsFirst = d .itsFirst });
+  tells =
+      subst (λ (o : Outcome Told). Decodes o n rounds first) (a .tells)
+      (record { itsCount = read ∙ d .itsCount; itsRounds = d .itsRounds; itsFirst = d .itsFirst });
   itsBits = a .itsBits;
   itsWork = a .itsWork;
 }
 
-pub batch-told : (b : batch.Batch) {answer : Outcome Unit} {left : batch.Lent} {z n : ℤ} → batch.Answered b answer left → z ≡ codedUnit answer → n ≡ z → BatchCall b n left
+pub batch-told : (b : batch.Batch) {answer : Outcome Unit} {left : batch.Lent} {z n : ℤ} → batch.Answered b answer left → z ≡ codedUnit answer → n ≡ z
+    → BatchCall b n left
 batch-told b a coded read = record { says = read ∙ coded ∙ ap codedUnit (a .says); leaves = a .leaves }
 
 pub groups-told : (b : batch.Batch) (sizes : List ℕ) {answer : Outcome Unit} {left : batch.Lent} {z n : ℤ} → groups.Answered b sizes answer left
     → z ≡ codedUnit answer → n ≡ z → GroupsCall b sizes n left
 groups-told b sizes a coded read = record { says = read ∙ coded ∙ ap codedUnit (a .says); leaves = a .leaves }
 
-pub reason-told : (a : reason.Asked) {answer : Outcome Reason} {word : List ℕ} {work : List Float} {z n : ℤ} {part computed : Lent} → reason.Answered a answer word work
+pub reason-told : (a : reason.Asked) {answer : Outcome Reason} {word : List ℕ} {work : List Float} {z n : ℤ} {part computed : Lent}
+    → reason.Answered a answer word work
     → Explains answer z part computed → n ≡ z → ReasonCall a n part computed word work
 reason-told a {answer} {word} {work} {z} {n} {part} {computed} r e read = record {
-  says = subst (λ (o : Outcome Reason). Explains o n part computed) (r .says) (record { itsKind = read ∙ e .itsKind; itsPart = e .itsPart; itsComputed = e .itsComputed });
+  says =
+      subst (λ (o : Outcome Reason). Explains o n part computed) (r .says)
+      (record { itsKind = read ∙ e .itsKind; itsPart = e .itsPart; itsComputed = e .itsComputed });
   itsWord = r .itsWord;
   itsWork = r .itsWork;
 }

@@ -46,7 +46,9 @@ module _ (v : Float) (h : passes v ≡ true) where
 
   -- the cast, read back from its bits
   pub read-back : toZ w8 (ofZ w8 (toSigned 7 (mul binary32 v eight32))) ≡ eightTimes v
-  read-back = ap (λ (z : ℤ). toZ w8 (ofZ w8 z)) (cast v h .1 ∙ as-signed) ∙ toZ-ofZ w8 (signed (sign v) (count v)) (in-range (sign v) (count v) (passing v h .eighths .small)) ∙ sym as-signed
+  read-back =
+      ap (λ (z : ℤ). toZ w8 (ofZ w8 z)) (cast v h .1 ∙ as-signed)
+      ∙ toZ-ofZ w8 (signed (sign v) (count v)) (in-range (sign v) (count v) (passing v h .eighths .small)) ∙ sym as-signed
 
   -- and its negative
   pub negative-is : pos 0 -ℤ eightTimes v ≡ negℤ (eightTimes v)

@@ -43,7 +43,8 @@ eighths-fix (fin t m e) nan s n f g h k = absurd k
 eighths-fix (fin t m e) (inf u) s n f g h k = absurd k
 eighths-fix (fin t m e) (fin u l d) s n f g h k =
     sym (ofBits-toBits binary32 (fin t m e) f)
-    ∙ ap (ofBits binary32) (ap (λ (b : Bool). toBits binary32 (fin b m e)) (h .0 ∙ sym (k .0)) ∙ same-bits u m l e d (swap (m * up e) (down e) (l * up d) (down d) n (h .1) (k .1)))
+    ∙ ap (ofBits binary32)
+    (ap (λ (b : Bool). toBits binary32 (fin b m e)) (h .0 ∙ sym (k .0)) ∙ same-bits u m l e d (swap (m * up e) (down e) (l * up d) (down d) n (h .1) (k .1)))
     ∙ ofBits-toBits binary32 (fin u l d) g
 
 -- ---- a byte's value
@@ -89,7 +90,8 @@ pub value-undone : (p : Bool) (v : Float) → T (fits binary32 v) → passes v �
 value-undone p v f h =
     let x = passing v h in
     ap (valueOf p) (byte-with p v h)
-    ∙ eighths-fix (valueOf p (byteWith p (sign v) (count v))) v (sign v) (count v) (value-fits p (byteWith p (sign v) (count v))) f (value-eighths p (sign v) (count v) (x .eighths .small) (x .nonzero)) (x .eighths .value)
+    ∙ eighths-fix (valueOf p (byteWith p (sign v) (count v))) v (sign v) (count v) (value-fits p (byteWith p (sign v) (count v))) f
+    (value-eighths p (sign v) (count v) (x .eighths .small) (x .nonzero)) (x .eighths .value)
 
 -- and the byte is not -128
 not-least-signed : (s : Bool) (n : ℕ) → n ≤ 127 → isLeast (signed s n) ≡ false
@@ -116,7 +118,8 @@ as-byte true (pos zero) f l = record { s = false; n = 0; small = omega arith; no
 as-byte true (pos (suc n)) f l = let k = f .sfits in record { s = true; n = suc n; small = omega arith; nonzero = rw (eqb·suc-zero n) tt; same = refl }
 as-byte true (negsuc n) f l = let k = f .sfits in let e = eqb-false n 127 l in record { s = false; n = suc n; small = omega arith; nonzero = tt; same = refl }
 as-byte false (pos n) f l = let k = f .sfits in record { s = false; n = n; small = omega arith; nonzero = tt; same = refl }
-as-byte false (negsuc n) f l = let k = f .sfits in let e = eqb-false n 127 l in record { s = true; n = suc n; small = omega arith; nonzero = rw (eqb·suc-zero n) tt; same = refl }
+as-byte false (negsuc n) f l =
+    let k = f .sfits in let e = eqb-false n 127 l in record { s = true; n = suc n; small = omega arith; nonzero = rw (eqb·suc-zero n) tt; same = refl }
 
 -- n eighths that are not -0.0 pass
 eighths-pass : (x : Float) (s : Bool) (n : ℕ) → Eighths x s n → T (not (s && eqb n 0)) → passes x ≡ true
@@ -125,7 +128,8 @@ eighths-pass nan s n h z = absurd (h .value)
 eighths-pass (inf t) s n h z = absurd (h .value)
 eighths-pass (fin t m e) s n h z =
     same-test (passes (fin t m e)) true (λ b. tt)
-    (λ b. and-i (wholeEighths (fin t m e)) (not (t && eqb m 0)) (eighths-whole (fin t m e) s n h .0) (other t m n (h .value .1) (subst (λ (u : Bool). T (not (u && eqb n 0))) (sym (h .value .0)) z)))
+    (λ b. and-i (wholeEighths (fin t m e)) (not (t && eqb m 0)) (eighths-whole (fin t m e) s n h .0)
+    (other t m n (h .value .1) (subst (λ (u : Bool). T (not (u && eqb n 0))) (sym (h .value .0)) z)))
   where
     other : (t : Bool) (m n : ℕ) → m * up e * 8 ≡ n * down e → T (not (t && eqb n 0)) → T (not (t && eqb m 0))
     other false m n h z = tt
@@ -138,13 +142,15 @@ pub byte-passes : (p : Bool) (b : ℤ) → SFits w8 b → isLeast b ≡ false �
 byte-passes p b f l =
     let x = as-byte p b f l in
     ap (λ (z : ℤ). passes (valueOf p z)) (x .same)
-    ∙ eighths-pass (valueOf p (byteWith p (x .s) (x .n))) (x .s) (x .n) (record { value = value-eighths p (x .s) (x .n) (x .small) (x .nonzero); small = x .small }) (x .nonzero)
+    ∙ eighths-pass (valueOf p (byteWith p (x .s) (x .n))) (x .s) (x .n)
+    (record { value = value-eighths p (x .s) (x .n) (x .small) (x .nonzero); small = x .small }) (x .nonzero)
 
 pub byte-undone : (p : Bool) (b : ℤ) → SFits w8 b → isLeast b ≡ false → byteOf p (valueOf p b) ≡ b
 unfolding byteOf
 byte-undone p b f l =
     let x = as-byte p b f l in
-    let h : Eighths (valueOf p (byteWith p (x .s) (x .n))) (x .s) (x .n) = record { value = value-eighths p (x .s) (x .n) (x .small) (x .nonzero); small = x .small } in
+    let h : Eighths (valueOf p (byteWith p (x .s) (x .n))) (x .s) (x .n) =
+    record { value = value-eighths p (x .s) (x .n) (x .small) (x .nonzero); small = x .small } in
     ap (λ (z : ℤ). byteOf p (valueOf p z)) (x .same)
     ∙ ap (λ (z : ℤ). cond p (negℤ z) z) (eighths-whole (valueOf p (byteWith p (x .s) (x .n))) (x .s) (x .n) h .1)
     ∙ sym (x .same)
@@ -180,7 +186,9 @@ bytes-undone p bytes values all e =
     all-undone (λ b. SFits w8 b) isLeast (valueOf p) (byteOf p) (λ v. not (passes v)) (byte-undone p) (λ b f l. ap not (byte-passes p b f l))
     bytes all (none-held (not (eqb (length bytes) (length values))) (some isLeast bytes) 17 e) in
     record {
-      takenBack = taken (length (map (valueOf p) bytes)) (length bytes) 18 (some (λ v. not (passes v)) (map (valueOf p) bytes)) (length-map bytes (valueOf p)) (back .0);
+      takenBack =
+          taken (length (map (valueOf p) bytes)) (length bytes) 18 (some (λ v. not (passes v)) (map (valueOf p) bytes)) (length-map bytes (valueOf p))
+          (back .0);
       undone = back .1;
     }
 

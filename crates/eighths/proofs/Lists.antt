@@ -41,7 +41,8 @@ module _ {A : Type 0} (test : A → Bool) (d : A) where
 -- ---- a value written for each entry
 
 module _ {A B : Type 0} (f : A → B) (d : A) where
-  pub fill-more : (l : List A) (out : List B) (i : ℕ) (v : B) → i < length l → i < length out → v ≡ f (getD l i d) → take i out ≡ map f (take i l) → take (i + 1) (set out i v) ≡ map f (take (i + 1) l)
+  pub fill-more : (l : List A) (out : List B) (i : ℕ) (v : B) → i < length l → i < length out → v ≡ f (getD l i d) → take i out ≡ map f (take i l)
+      → take (i + 1) (set out i v) ≡ map f (take (i + 1) l)
   fill-more l out i v h k e so = rw (add-one, take-suc-set out i v k, take-suc l i d h, map-append, e, so) refl
 
   pub fill-done : (l : List A) (out : List B) (i : ℕ) → length out ≤ i → length out ≡ length l → take i out ≡ map f (take i l) → out ≡ map f l

@@ -2,7 +2,21 @@
 -- and by the library's `round-exact`, since a byte over eight needs no more digits than an f32 has. Assumes nothing.
 use mathlib.Core.Path.{_≡_, refl, sym, ap, _∙_, subst}
 use Prim.Native.Nat.{ℕ, zero, suc, _+_, _*_, _/_, _%_, _^_, _≤_, _<_}
-use native.Mathlib.Nat.{mul-one, zero-mul, mul-assoc, mul-right-comm, mul-pos, mul-mod-left, mul-div-cancel, div-add-mod', add-zero, eq-of-mul-eq-mul-right, lt-of-lt-of-le, zero-lt-suc, mul-lt-mul-of-pos-right}
+use native.Mathlib.Nat.{
+  mul-one,
+  zero-mul,
+  mul-assoc,
+  mul-right-comm,
+  mul-pos,
+  mul-mod-left,
+  mul-div-cancel,
+  div-add-mod',
+  add-zero,
+  eq-of-mul-eq-mul-right,
+  lt-of-lt-of-le,
+  zero-lt-suc,
+  mul-lt-mul-of-pos-right,
+}
 use native.Mathlib.Omega.{arith}
 use mathlib.Core.Bool.{Bool, true, false, not, _&&_, _||_, Bool·beq, true≢false}
 use lib.Dec.{T, lit≤, eqb, leb, eqb→eq, leb→le, le→leb, lt→ltb, eqb·suc-zero, not-T}
@@ -74,7 +88,8 @@ times-eight nan s n h = absurd h
 times-eight (inf t) s n h = absurd h
 times-eight (fin t m e) s n h =
     ap (λ (b : Bool). round binary32 b (m * up e * 8) (down e * 1)) (unlike-false t ∙ h .0)
-    ∙ round-same binary32 s (m * up e * 8) (down e * 1) n 1 (mul-pos (down-pos e) (zero-lt-suc 0)) (zero-lt-suc 0) (mul-one (m * up e * 8) ∙ h .1 ∙ ap (λ (k : ℕ). n * k) (sym (mul-one (down e))))
+    ∙ round-same binary32 s (m * up e * 8) (down e * 1) n 1 (mul-pos (down-pos e) (zero-lt-suc 0)) (zero-lt-suc 0)
+    (mul-one (m * up e * 8) ∙ h .1 ∙ ap (λ (k : ℕ). n * k) (sym (mul-one (down e))))
 
 -- an eighth of n is n over eight, rounded
 over-eight : (x : Float) (s : Bool) (n : ℕ) → HasValue x s n 1 → mul binary32 x eighth32 ≡ round binary32 s n 8
@@ -83,13 +98,15 @@ over-eight nan s n h = absurd h
 over-eight (inf t) s n h = absurd h
 over-eight (fin t m e) s n h =
     ap (λ (b : Bool). round binary32 b (m * up e * 1) (down e * 8)) (unlike-false t ∙ h .0)
-    ∙ round-same binary32 s (m * up e * 1) (down e * 8) n 8 (mul-pos (down-pos e) (zero-lt-suc 7)) (zero-lt-suc 7) (ap (λ (k : ℕ). k * 8) (h .1) ∙ mul-assoc n (down e) 8)
+    ∙ round-same binary32 s (m * up e * 1) (down e * 8) n 8 (mul-pos (down-pos e) (zero-lt-suc 7)) (zero-lt-suc 7)
+    (ap (λ (k : ℕ). k * 8) (h .1) ∙ mul-assoc n (down e) 8)
 
 -- which changes nothing
 exact : (s : Bool) (n : ℕ) → n ≤ 127 → HasValue (round binary32 s n 8) s n 8
 exact s n small =
     let few : n < 2 ^ 24 = omega arith in
-    round-exact binary32 s n 8 n 146 (zero-lt-suc 7) few (lt-of-lt-of-le (shl-lt 24 146 few) (pow-mono {i = 24 + 146} {j = 277} (lit≤ tt))) (sym (mul-assoc n (2 ^ 146) 8))
+    round-exact binary32 s n 8 n 146 (zero-lt-suc 7) few (lt-of-lt-of-le (shl-lt 24 146 few) (pow-mono {i = 24 + 146} {j = 277} (lit≤ tt)))
+    (sym (mul-assoc n (2 ^ 146) 8))
 
 -- a byte's float, by its sign and its size; minus zero is no byte
 as-float : (s : Bool) (n : ℕ) → T (not (s && eqb n 0)) → ofInt binary32 (signed s n) ≡ round binary32 s n 1
@@ -102,7 +119,9 @@ as-float true (suc n) z = refl
 pub product-exact : (s : Bool) (n : ℕ) → n ≤ 127 → T (not (s && eqb n 0)) → HasValue (timesEighth (signed s n)) s n 8
 product-exact s n small z =
     let few : n ≤ 2 ^ 24 = omega arith in
-    subst (λ (x : Float). HasValue x s n 8) (sym (ap (λ (x : Float). mul binary32 x eighth32) (as-float s n z) ∙ over-eight (round binary32 s n 1) s n (round-whole binary32 s n few))) (exact s n small)
+    subst (λ (x : Float). HasValue x s n 8)
+    (sym (ap (λ (x : Float). mul binary32 x eighth32) (as-float s n z) ∙ over-eight (round binary32 s n 1) s n (round-whole binary32 s n few)))
+    (exact s n small)
 
 -- ---- comparison
 
@@ -158,7 +177,8 @@ plain nan l z t = absurd t
 plain (inf s) l z t = absurd t
 plain (fin false m e) l z t = whole-eighths false m e t
 plain (fin true zero e) l z t = absurd (true≢false z)
-plain (fin true (suc m) e) l z t = absurd (no-sum (suc m * up e) (0 * down e) (mul-pos (zero-lt-suc m) (up-pos e)) (ltb-false 0 (suc m * up e * 1 + 0 * down e) l))
+plain (fin true (suc m) e) l z t =
+    absurd (no-sum (suc m * up e) (0 * down e) (mul-pos (zero-lt-suc m) (up-pos e)) (ltb-false 0 (suc m * up e * 1 + 0 * down e) l))
 
 -- eight times it is the whole number, which is cut to itself
 cut : (v : Float) (n : ℕ) → Eighths v false n → toUnsigned 64 (mul binary32 v eight32) ≡ n
@@ -173,7 +193,9 @@ above : (x : Float) (n : ℕ) → HasValue x false n 1 → T (lt (neg (ofBits bi
 unfolding lt neg ofBits
 above nan n h = absurd h
 above (inf s) n h = absurd h
-above (fin s m e) n h = subst (λ (b : Bool). T (lt (fin true 1 (pos 0)) (fin b m e))) (sym (h .0)) (lt→ltb 0 (1 * down e + m * up e * 1) (more (down e) (m * up e * 1) (down-pos e)))
+above (fin s m e) n h =
+    subst (λ (b : Bool). T (lt (fin true 1 (pos 0)) (fin b m e))) (sym (h .0))
+    (lt→ltb 0 (1 * down e + m * up e * 1) (more (down e) (m * up e * 1) (down-pos e)))
   where
     more : (a b : ℕ) → 0 < a → 0 < 1 * a + b
     more a b p = omega arith
@@ -236,7 +258,8 @@ zero-sign (fin true zero e) h = refl
 zero-sign (fin false zero e) h = refl
 zero-sign (fin s (suc m) e) h =
     let a = suc m * up e * 1 in
-    absurd (no-product (suc m * up e) (down e) (mul-pos (zero-lt-suc m) (up-pos e)) (eqb→eq a (0 * down e) (and-l (eqb a (0 * down e)) (Bool·beq s false || eqb a 0) (subst T (sym h) tt))))
+    absurd (no-product (suc m * up e) (down e) (mul-pos (zero-lt-suc m) (up-pos e))
+    (eqb→eq a (0 * down e) (and-l (eqb a (0 * down e)) (Bool·beq s false || eqb a 0) (subst T (sym h) tt))))
 
 pub not-zero : (v : Float) → eq v zero32 ≡ false → false ≡ minusZero v
 unfolding eq minusZero ofBits
@@ -245,7 +268,8 @@ not-zero (inf s) h = refl
 not-zero (fin s zero e) h =
     let a = 0 * up e * 1 in
     let none : a ≡ 0 = ap (λ (k : ℕ). k * 1) (zero-mul (up e)) in
-    absurd (subst T h (and-i (eqb a (0 * down e)) (Bool·beq s false || eqb a 0) (eq→eqb (none ∙ sym (zero-mul (down e)))) (or-r (Bool·beq s false) (eqb a 0) (eq→eqb none))))
+    absurd (subst T h
+    (and-i (eqb a (0 * down e)) (Bool·beq s false || eqb a 0) (eq→eqb (none ∙ sym (zero-mul (down e)))) (or-r (Bool·beq s false) (eqb a 0) (eq→eqb none))))
   where
     or-r : (x y : Bool) → T y → T (x || y)
     or-r true y t = tt
@@ -312,10 +336,12 @@ passing (fin s m e) h =
     kept : (s : Bool) (m : ℕ) → m * up e * 8 ≡ m * up e * 8 / down e * down e → T (not (s && eqb m 0)) → T (not (s && eqb (m * up e * 8 / down e) 0))
     kept false m h t = tt
     kept true zero h t = absurd t
-    kept true (suc m) h t = not-T (eqb (suc m * up e * 8 / down e) 0) (none (suc m * up e) (suc m * up e * 8 / down e) (down e) (mul-pos (zero-lt-suc m) (up-pos e)) h)
+    kept true (suc m) h t =
+        not-T (eqb (suc m * up e * 8 / down e) 0) (none (suc m * up e) (suc m * up e * 8 / down e) (down e) (mul-pos (zero-lt-suc m) (up-pos e)) h)
 
 -- an integer as an i8 and back
-signed-back : (s : Bool) (n : ℕ) → n ≤ 127 → T (not (s && eqb n 0)) → T (inSigned binary32 7 (ofInt binary32 (signed s n))) × (toSigned 7 (ofInt binary32 (signed s n)) ≡ signed s n)
+signed-back : (s : Bool) (n : ℕ) → n ≤ 127 → T (not (s && eqb n 0))
+    → T (inSigned binary32 7 (ofInt binary32 (signed s n))) × (toSigned 7 (ofInt binary32 (signed s n)) ≡ signed s n)
 unfolding inFloat
 signed-back false n small z = positive-back binary32 7 n (le→leb n (2 ^ 24) (omega arith)) (omega arith)
 signed-back true zero small z = absurd z
@@ -326,7 +352,8 @@ pub cast : (v : Float) → passes v ≡ true → T (inSigned binary32 7 (mul bin
 cast v h =
     let p = passing v h in
     let small = p .eighths .small in
-    let is : mul binary32 v eight32 ≡ ofInt binary32 (signed (sign v) (count v)) = times-eight v (sign v) (count v) (p .eighths .value) ∙ sym (as-float (sign v) (count v) (p .nonzero)) in
+    let is : mul binary32 v eight32 ≡ ofInt binary32 (signed (sign v) (count v)) =
+    times-eight v (sign v) (count v) (p .eighths .value) ∙ sym (as-float (sign v) (count v) (p .nonzero)) in
     let back = signed-back (sign v) (count v) small (p .nonzero) in (
       subst (λ (x : Float). T (inSigned binary32 7 x)) (sym is) (back .0),
       ap (toSigned 7) is ∙ back .1 ∙ sym (eighths-whole v (sign v) (count v) (p .eighths) .1),

@@ -5,8 +5,7 @@ use lib.Dec.{eqb}
 use lib.IntN.{ℤ}
 use lib.Ieee.{Float}
 use lib.ListN.{length}
-use Rattle.refusal.specs.Outcome.{Outcome, accepted, refused, Condition, _when_}
-use Rattle.refusal.specs.Numbers.{numberOf}
+use Rattle.refusal.specs.Outcome.{Condition, _when_}
 use Rattle.eighths.specs.Values.{isLeast, valueOf, passes, byteOf}
 
 -- whether the test holds of some entry

@@ -15,7 +15,7 @@ use Rattle.tanner.proofs.Count.{AllBelow, none, more}
 use Rattle.tanner.proofs.Flat.{all-below}
 use Rattle.staircase.specs.Staircase.{taps, parityEntries, checkRow, checkRows, checksOf}
 use Rattle.staircase.specs.Codes as staircase
-use Rattle.ldpc_codes.proofs.Codewords.{taps-below}
+use Rattle.staircase.proofs.Positions.{taps-below}
 use Rattle.staircase.proofs.EdgeCount.{columns-length}
 use Rattle.ldpc.specs.Agreement.{times}
 use Rattle.ldpc.specs.Code174 as code174

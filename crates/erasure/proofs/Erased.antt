@@ -11,9 +11,9 @@ use lib.Seq.{getD-take, getD-append-add, length-take-le, ext-getD}
 use Rattle.construction.specs.Codes.{Code, blockLength}
 use Rattle.tanner.specs.Checks.{Word, count}
 use Rattle.tanner.specs.Flat.{Below}
-use Rattle.staircase.specs.Staircase.{taps, parityEntries, checkRow, checkRows, checksOf}
+use Rattle.staircase.specs.Staircase.{taps, parityEntries, checkRow, checksOf}
 use Rattle.staircase.specs.Codes as staircase
-use Rattle.ldpc_codes.proofs.Codewords.{taps-below}
+use Rattle.staircase.proofs.Positions.{taps-below, row-at}
 use Rattle.staircase.proofs.EdgeCount.{columns-length}
 use Rattle.erasure.specs.Filling.{filledWord}
 use Rattle.erasure.specs.Promise.{named, OnlyUnknown, Agrees, Fills}
@@ -48,15 +48,6 @@ module _ (k : ℕ) (cols : List (List ℕ)) (size : length cols ≤ k) where
   row-above i p h =
       named-append p (taps i 0 cols) (parityEntries k i)
       ∙ omega (arith, entries-above k i p h, named-past k p (taps i 0 cols) (taps-below k i 0 cols (omega arith)) (omega arith))
-
-row-from : (k : ℕ) (cols : List (List ℕ)) (n i c : ℕ) → c < n → getD (checkRows k cols i n) c [] ≡ checkRow k cols (i + c)
-unfolding checkRows
-row-from k cols zero i c h = absurd (omega arith)
-row-from k cols (suc n) i zero h = rw add-zero
-row-from k cols (suc n) i (suc c) h = let e : i + suc c ≡ suc i + c = omega arith in rw e (row-from k cols n (suc i) c (omega arith))
-
-row-at : (k m : ℕ) (cols : List (List ℕ)) (c : ℕ) → c < m → getD (checksOf k m cols) c [] ≡ checkRow k cols c
-row-at k m cols c h = let e : 0 + c ≡ c = omega arith in row-from k cols m 0 c h ∙ ap (checkRow k cols) e
 
 -- ---- the erased word
 
@@ -101,14 +92,16 @@ module _ (k m : ℕ) (cols : List (List ℕ)) (size : length cols ≤ k) (v : Wo
       omega (arith, same, low, kept)
 
   own-only : (i : ℕ) → i < m → ((p : ℕ) → p < k + i → getD (filledWord (checksOf k m cols) (erased k m v)) p 0 ≡ 2 → ⊥)
-      → getD (filledWord (checksOf k m cols) (erased k m v)) (k + i) 0 ≡ 2 → OnlyUnknown (checkRow k cols i) (filledWord (checksOf k m cols) (erased k m v)) (k + i)
+      → getD (filledWord (checksOf k m cols) (erased k m v)) (k + i) 0 ≡ 2
+      → OnlyUnknown (checkRow k cols i) (filledWord (checksOf k m cols) (erased k m v)) (k + i)
   own-only i h below e = record {
     covered = row-own k cols size i;
     unknown = e;
     alone = λ q named-there u. by q named-there u (decLt q (k + i)) (decLt (k + i) q);
   }
     where
-      by : (q : ℕ) → 0 < named q (checkRow k cols i) → getD (filledWord (checksOf k m cols) (erased k m v)) q 0 ≡ 2 → Dec (q < k + i) → Dec (k + i < q) → q ≡ k + i
+      by : (q : ℕ) → 0 < named q (checkRow k cols i) → getD (filledWord (checksOf k m cols) (erased k m v)) q 0 ≡ 2 → Dec (q < k + i) → Dec (k + i < q)
+          → q ≡ k + i
       by q there u (yes l) d = absurd (below q l u)
       by q there u (no l) (yes g) = absurd (omega (arith, row-above k cols size i q g))
       by q there u (no l) (no g) = omega arith

@@ -13,6 +13,7 @@ use lib.ListN.{length, getD, set, length-set, List·getD-eq-default}
 use lib.Seq.{getD-set-same, getD-set-other}
 use Rattle.tanner.specs.Checks.{Word, Checks, count}
 use Rattle.tanner.specs.Flat.{Below}
+use Rattle.tanner.proofs.Below.{below-at}
 use Rattle.erasure.specs.Filling.{Setting, none, at, lowest, fillBy, filled, filledWord, filledPlaces}
 use Rattle.erasure.specs.Promise.{named, NoneTwice, Agrees, Fills}
 use Rattle.erasure.proofs.Named.{named-cons, named-none, named-fresh, named-other}
@@ -60,7 +61,8 @@ module _ (cs : Checks) where
       let t = taken cs w p b e in
       fill-kept n (lowest cs (set w p b)) (set w p b) refl q (still-known t q known) ∙ set-kept t q known
 
-  fill-unknown : (n : ℕ) (s : Setting) (w : Word) → lowest cs w ≡ s → (i : ℕ) → i < length (fillBy n cs s w .places) → getD w (getD (fillBy n cs s w .places) i 0) 0 ≡ 2
+  fill-unknown : (n : ℕ) (s : Setting) (w : Word) → lowest cs w ≡ s → (i : ℕ) → i < length (fillBy n cs s w .places)
+      → getD w (getD (fillBy n cs s w .places) i 0) 0 ≡ 2
   unfolding fillBy
   fill-unknown zero s w e i h = absurd (omega arith)
   fill-unknown (suc n) none w e i h = absurd (omega arith)
@@ -93,9 +95,11 @@ module _ (cs : Checks) where
   fill-once zero s w e q = omega (arith, named-none q)
   fill-once (suc n) none w e q = omega (arith, named-none q)
   fill-once (suc n) (at p b) w e q =
-      named-fresh q p _ (fill-unnamed n (lowest cs (set w p b)) (set w p b) refl p (set-known (taken cs w p b e))) (fill-once n (lowest cs (set w p b)) (set w p b) refl q)
+      named-fresh q p _ (fill-unnamed n (lowest cs (set w p b)) (set w p b) refl p (set-known (taken cs w p b e)))
+      (fill-once n (lowest cs (set w p b)) (set w p b) refl q)
 
-  fill-unlisted : (n : ℕ) (s : Setting) (w : Word) → lowest cs w ≡ s → (q : ℕ) → named q (fillBy n cs s w .places) ≡ 0 → getD (fillBy n cs s w .word) q 0 ≡ getD w q 0
+  fill-unlisted : (n : ℕ) (s : Setting) (w : Word) → lowest cs w ≡ s → (q : ℕ) → named q (fillBy n cs s w .places) ≡ 0
+      → getD (fillBy n cs s w .word) q 0 ≡ getD w q 0
   unfolding fillBy
   fill-unlisted zero s w e q h = refl
   fill-unlisted (suc n) none w e q h = refl
@@ -164,21 +168,13 @@ agrees-past w v a q known = by (decLt q (length w))
     by (yes h) = a .known q h known
     by (no h) = List·getD-eq-default w 0 (omega arith) ∙ sym (List·getD-eq-default v 0 (omega (arith, a .long)))
 
-bit-at : (v : Word) (p : ℕ) → Below 2 v → getD v p 0 < 2
-unfolding Below
-bit-at v p low = by (decLt p (length v))
-  where
-    by : Dec (p < length v) → getD v p 0 < 2
-    by (yes h) = low p h
-    by (no h) = rw (List·getD-eq-default v 0 {n = p} (omega arith)) (omega arith)
-
 module _ (cs : Checks) (v : Word) (bits : Below 2 v) (z : count cs v ≡ 0) where
   set-agrees : {w : Word} {p b : ℕ} → Taken cs w p b → AgreesAll w v → AgreesAll (set w p b) v
   unfolding AgreesAll
   set-agrees {w} {p} {b} t a q known = by (ℕ-discrete q p)
     where
       by : Dec (q ≡ p) → getD (set w p b) q 0 ≡ getD v q 0
-      by (yes s) = rw s (set-here t ∙ taken-right v a (bit-at v p bits) z t)
+      by (yes s) = rw s (set-here t ∙ taken-right v a (below-at 1 v p bits) z t)
       by (no s) = let same = getD-set-other w p q b 0 s in same ∙ a q (λ e. known (same ∙ e))
 
   fill-agrees : (n : ℕ) (s : Setting) (w : Word) → lowest cs w ≡ s → AgreesAll w v → AgreesAll (fillBy n cs s w .word) v
@@ -201,7 +197,9 @@ fills cs w twice =
       once = fill-once cs n s w refl;
       unlisted = fill-unlisted cs n s w refl;
       few = fill-few cs n s w;
-      noneLeft = λ c p u. only-set (getD cs c []) (fillBy n cs s w .word) p (twice c p) u (no-setting cs (fillBy n cs s w .word) (none-next cs n s w refl (holes-few w)) c);
+      noneLeft =
+          λ c p u. only-set (getD cs c []) (fillBy n cs s w .word) p (twice c p) u
+          (no-setting cs (fillBy n cs s w .word) (none-next cs n s w refl (holes-few w)) c);
       everyWord = λ v a z. record {
         long = a .long ∙ sym (fill-length cs n s w);
         bits = a .bits;

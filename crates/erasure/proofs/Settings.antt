@@ -122,7 +122,8 @@ module _ (w v : Word) (p : ℕ) (hole : getD w p 0 ≡ 2) (agree : (q : ℕ) →
   one-unknown [] e = let z : _≡_ {A = ℕ} 0 1 = cc in absurd (omega arith)
   one-unknown (q ∷ qs) e = by (eqb (getD w q 0) 2) refl (one-unknown qs) e
     where
-      by : (t : Bool) → eqb (getD w q 0) 2 ≡ t → (unknowns qs w ≡ p ∷ [] → parity qs v ≡ (getD v p 0 + parity (others p qs) w) % 2) → cond t (q ∷ unknowns qs w) (unknowns qs w) ≡ p ∷ []
+      by : (t : Bool) → eqb (getD w q 0) 2 ≡ t → (unknowns qs w ≡ p ∷ [] → parity qs v ≡ (getD v p 0 + parity (others p qs) w) % 2)
+          → cond t (q ∷ unknowns qs w) (unknowns qs w) ≡ p ∷ []
           → (getD v q 0 + parity qs v) % 2 ≡ (getD v p 0 + parity (cond (eqb q p) (others p qs) (q ∷ others p qs)) w) % 2
       by true f ih e =
           let same : q ≡ p = cc in

@@ -69,7 +69,9 @@ module _ (c : List ℕ) (w : Word) (i n a odd : ℕ) (h : i < length c) (s : Sca
   unfolding unknowns
   scan-unknown e = record {
     few = omega (arith, s .few);
-    found = rw (add-one i, add-one n, ← noted-more c w n a (getD c i 0) (unknowns (drop (suc i) c) w)) (rw (drop-cons c i 0 h, eq-eqb (getD w (getD c i 0) 0) 2 e) at (s .found));
+    found =
+        rw (add-one i, add-one n, ← noted-more c w n a (getD c i 0) (unknowns (drop (suc i) c) w))
+        (rw (drop-cons c i 0 h, eq-eqb (getD w (getD c i 0) 0) 2 e) at (s .found));
     even = scan-parity;
   }
 
@@ -108,11 +110,13 @@ module _ (c : List ℕ) (w : Word) (i n a odd : ℕ) (h : length c ≤ i) (s : S
 -- ---- the lowest-numbered check
 
 module _ (s f : List ℕ) (w : Word) (c : ℕ) {z : Setting} (inv : lowest (rowsFrom s c f) w ≡ z) where
-  pub lowest-found : {x : Setting} (p b : ℕ) → c + 1 < length s → x ≡ settingIn (take (getD s (c + 1) 0 - getD s c 0) (drop (getD s c 0) f)) w → x ≡ at p b → at p b ≡ z
+  pub lowest-found : {x : Setting} (p b : ℕ) → c + 1 < length s → x ≡ settingIn (take (getD s (c + 1) 0 - getD s c 0) (drop (getD s c 0) f)) w → x ≡ at p b
+      → at p b ≡ z
   unfolding lowest
   lowest-found p b h e t = rw (rows-more s f c h, sym e ∙ t) at inv
 
-  pub lowest-more : {x : Setting} → c + 1 < length s → x ≡ settingIn (take (getD s (c + 1) 0 - getD s c 0) (drop (getD s c 0) f)) w → x ≡ none → lowest (rowsFrom s (c + 1) f) w ≡ z
+  pub lowest-more : {x : Setting} → c + 1 < length s → x ≡ settingIn (take (getD s (c + 1) 0 - getD s c 0) (drop (getD s c 0) f)) w → x ≡ none
+      → lowest (rowsFrom s (c + 1) f) w ≡ z
   unfolding lowest
   lowest-more h e t = rw (rows-more s f c h, sym e ∙ t) at inv
 

@@ -1,11 +1,10 @@
 -- The mender's call (change request N7): when it is refused, and what it answers otherwise.
 use mathlib.Core.Bool.{Bool, false, not, _||_}
 use mathlib.Core.List.{List, [], _∷_}
-use Prim.Native.Nat.{ℕ, zero, suc, _+_}
+use Prim.Native.Nat.{ℕ, zero, suc}
 use lib.Dec.{eqb, ltb}
 use lib.ListN.{length}
-use Rattle.refusal.specs.Outcome.{Outcome, accepted, refused, Condition, _when_}
-use Rattle.refusal.specs.Numbers.{numberOf}
+use Rattle.refusal.specs.Outcome.{Condition, _when_}
 use Rattle.construction.specs.Codes.{n512r12, n576r23, n512r34, blockLength}
 use Rattle.tanner.specs.Checks.{Word, Checks}
 use Rattle.staircase.specs.Codes as staircase

@@ -17,7 +17,22 @@ use Rattle.figure_lines.proofs.Lengths.{file-short}
 use Rattle.batch_figures.specs.Results.{batchFrames}
 use Rattle.decoded_input.proofs.Answers.{judged-given}
 use Rattle.input_figures.specs.Added.{inputResults, inputTotals, addRefusals, inputAdded}
-use Rattle.figure_report.specs.Report.{File, bytes, unread, totalOr, totalAfter, lineOr, lineFor, Stepped, reportFrom, framesOr, framesOf, framesCounted, linesFrom, Reports}
+use Rattle.figure_report.specs.Report.{
+  File,
+  bytes,
+  unread,
+  totalOr,
+  totalAfter,
+  lineOr,
+  lineFor,
+  Stepped,
+  reportFrom,
+  framesOr,
+  framesOf,
+  framesCounted,
+  linesFrom,
+  Reports,
+}
 
 -- ---- one file
 
@@ -27,7 +42,8 @@ module _ (place : ℕ) (t : Totals) where
   unfolding totalAfter lineFor
   unread-step before after end w = record { itsTotal = refl; itsLine = w; short = omega (arith, w .end, file-short place Unreadable) }
 
-  pub counted-step : (s before : List ℕ) (sum : Totals) → accepted sum ≡ inputAdded t s → Stepped place t (bytes s) before before (record { total = sum; end = 0 })
+  pub counted-step : (s before : List ℕ) (sum : Totals) → accepted sum ≡ inputAdded t s
+      → Stepped place t (bytes s) before before (record { total = sum; end = 0 })
   unfolding totalAfter lineFor
   counted-step s before sum e = record {
     itsTotal = ap (totalOr t) e;
@@ -35,7 +51,8 @@ module _ (place : ℕ) (t : Totals) where
     short = omega arith;
   }
 
-  pub refused-step : (s before after : List ℕ) (end : ℕ) (r : Refusal) → refused (numberOf r) ≡ inputAdded t s → Written before 0 (refusedLine place (numberOf r)) after end
+  pub refused-step : (s before after : List ℕ) (end : ℕ) (r : Refusal) → refused (numberOf r) ≡ inputAdded t s
+      → Written before 0 (refusedLine place (numberOf r)) after end
       → Stepped place t (bytes s) before after (record { total = t; end = end })
   unfolding totalAfter lineFor
   refused-step s before after end r e w = record {

@@ -1,7 +1,25 @@
 -- The greatest common divisor and the lowest terms: Euclid's division keeps the common divisors, so what is left divides both and is divided by each of them.
 use mathlib.Core.Path.{_≡_, refl, sym, ap, _∙_}
 use Prim.Native.Nat.{ℕ, zero, suc, _+_, _*_, _/_, _%_, _≤_, _<_, _∣_}
-use native.Mathlib.Nat.{mod-lt, mul-comm, mul-left-comm, one-mul, add-zero, div-add-mod, div-self, div-eq-of-lt, mod-eq-of-lt, dvd-refl, dvd-zero, dvd-mod-iff, pos-of-dvd-of-pos, mod-eq-zero-of-dvd, mul-dvd-mul-right, dvd-of-mul-dvd-mul-right, eq-one-of-dvd-one}
+use native.Mathlib.Nat.{
+  mod-lt,
+  mul-comm,
+  mul-left-comm,
+  one-mul,
+  add-zero,
+  div-add-mod,
+  div-self,
+  div-eq-of-lt,
+  mod-eq-of-lt,
+  dvd-refl,
+  dvd-zero,
+  dvd-mod-iff,
+  pos-of-dvd-of-pos,
+  mod-eq-zero-of-dvd,
+  mul-dvd-mul-right,
+  dvd-of-mul-dvd-mul-right,
+  eq-one-of-dvd-one,
+}
 use native.Mathlib.Omega.{arith}
 use Rattle.figures.specs.Fraction.{gcdWithin, gcd, lowest}
 
@@ -89,7 +107,3 @@ unfolding lowest
 zero-over d some =
     let is : gcd 0 d ≡ d = gcd-step 0 d some ∙ ap (gcd d) (mod-eq-of-lt some) ∙ gcd-zero d in
     rw (is, div-self some, div-eq-of-lt some)
-
-pub some-of-ne : (b : ℕ) → (b ≡ 0 → ⊥) → 0 < b
-some-of-ne zero h = absurd (h refl)
-some-of-ne (suc b) h = omega arith

@@ -18,7 +18,8 @@ past a b =
     || (passed (a .counts) (b .counts) 18446744073709551615 || passed (a .rounds) (b .rounds) 18446744073709551615))
 
 pub judged-past : {A : Type 0} (a b : Totals) (t : A) → judged (joinRefusals a b) t ≡ cond (past a b) (refused 14) (accepted t)
-judged-past {A} a b t = by (passed (a .frames) (b .frames) _) (passed (a .clean) (b .clean) _) (passed (a .counts) (b .counts) _) (passed (a .rounds) (b .rounds) _)
+judged-past {A} a b t =
+    by (passed (a .frames) (b .frames) _) (passed (a .clean) (b .clean) _) (passed (a .counts) (b .counts) _) (passed (a .rounds) (b .rounds) _)
   where
     by : (p q r s : Bool) → judged ((14 when p) ∷ (14 when q) ∷ (14 when r) ∷ (14 when s) ∷ []) t ≡ cond (p || (q || (r || s))) (refused 14) (accepted t)
     by true q r s = refl

@@ -17,7 +17,13 @@ either-order a b = rw (add-comm (a .frames) (b .frames), add-comm (a .clean) (b 
 
 pub sums-assoc : (a b c : Totals) → sums (sums a b) c ≡ sums a (sums b c)
 sums-assoc a b c =
-    rw (add-assoc (a .frames) (b .frames) (c .frames), add-assoc (a .clean) (b .clean) (c .clean), add-assoc (a .counts) (b .counts) (c .counts), add-assoc (a .rounds) (b .rounds) (c .rounds))
+    rw (
+      add-assoc (a .frames) (b .frames) (c .frames),
+      add-assoc (a .clean) (b .clean) (c .clean),
+      add-assoc (a .counts) (b .counts) (c .counts),
+      add-assoc
+          (a .rounds) (b .rounds) (c .rounds),
+    )
 
 pub sums-nothing : (a : Totals) → sums nothingYet a ≡ a
 sums-nothing a = rw (zero-add (a .frames), zero-add (a .clean), zero-add (a .counts), zero-add (a .rounds))
@@ -25,7 +31,13 @@ sums-nothing a = rw (zero-add (a .frames), zero-add (a .clean), zero-add (a .cou
 -- what two totals come to, joined with a third
 pub joined-further : (a b c : Totals) → judged (joinRefusals (sums a b) c) (sums (sums a b) c) ≡ judged (joinRefusals a (sums b c)) (sums a (sums b c))
 joined-further a b c =
-    rw (add-assoc (a .frames) (b .frames) (c .frames), add-assoc (a .clean) (b .clean) (c .clean), add-assoc (a .counts) (b .counts) (c .counts), add-assoc (a .rounds) (b .rounds) (c .rounds))
+    rw (
+      add-assoc (a .frames) (b .frames) (c .frames),
+      add-assoc (a .clean) (b .clean) (c .clean),
+      add-assoc (a .counts) (b .counts) (c .counts),
+      add-assoc
+          (a .rounds) (b .rounds) (c .rounds),
+    )
 
 pub nothing-added : (a : Totals) → sums a nothingYet ≡ a
 nothing-added a = rw (add-zero (a .frames), add-zero (a .clean), add-zero (a .counts), add-zero (a .rounds))
@@ -40,7 +52,8 @@ totals-joined (f ∷ fs) ys =
 
 -- the same of the call's answer: "Where no limit is passed", the totals of all frames, and else 14
 pub batches-joined : (xs ys : List Frame)
-    → judged (joinRefusals (totalsOf xs) (totalsOf ys)) (sums (totalsOf xs) (totalsOf ys)) ≡ judged (joinRefusals (totalsOf xs) (totalsOf ys)) (totalsOf (xs ++ ys))
+    → judged (joinRefusals (totalsOf xs) (totalsOf ys)) (sums (totalsOf xs) (totalsOf ys)) ≡ judged (joinRefusals (totalsOf xs) (totalsOf ys))
+    (totalsOf (xs ++ ys))
 batches-joined xs ys = ap (judged (joinRefusals (totalsOf xs) (totalsOf ys))) (sym (totals-joined xs ys))
 
 -- a sum passes its limit where the second number is more than what the first leaves

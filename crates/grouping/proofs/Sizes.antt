@@ -2,7 +2,9 @@
 use mathlib.Core.Path.{_≡_, refl, sym, ap, _∙_}
 use mathlib.Core.Bool.{Bool, true, false, not, cond, _||_, or-true}
 use mathlib.Core.List.{List, [], _∷_}
+use mathlib.Mathlib.Data.Bool.Basic.{or-eq-false-eq-eq-false-and-eq-false as or-is-false}
 use Prim.Native.Nat.{ℕ, zero, suc, _+_, _-_, _<_, _≤_}
+use native.Mathlib.Nat.{pos-of-ne-zero}
 use native.Mathlib.Numerals.{add-one}
 use native.Mathlib.Omega.{arith}
 use borrow.Author.Tests.{eq-eqb, ne-eqb, eqb-true, eqb-false, not-false}
@@ -56,10 +58,6 @@ pub no-list : (sizes : List ℕ) (frames : ℕ) → length sizes ≡ 0 → verdi
 no-list [] frames h = refl
 no-list (n ∷ ns) frames h = absurd (omega arith)
 
-pub some-size : (n : ℕ) → (n ≡ 0 → ⊥) → 0 < n
-some-size zero h = absurd (h refl)
-some-size (suc n) h = omega arith
-
 module _ (sizes : List ℕ) (frames i left : ℕ) (rest : wrong sizes frames ≡ wrong (drop i sizes) left) where
   abbrev n : ℕ
   n = getD sizes i 0
@@ -92,14 +90,6 @@ pub record Right (sizes : List ℕ) (frames : ℕ) : Type 0 where
   pub no-zero : someZero sizes ≡ false
   pub adds-up : total sizes ≡ frames
 
-or-left : (a b : Bool) → (a || b) ≡ false → a ≡ false
-or-left true b e = e
-or-left false b e = refl
-
-or-right : (a b : Bool) → (a || b) ≡ false → b ≡ false
-or-right true b e = absurd (let z : _≡_ {A = ℕ} 0 1 = cc in omega arith)
-or-right false b e = e
-
 pub sizes-right : (sizes : List ℕ) (frames : ℕ) → 0 < length sizes → verdict (sizeRefusals frames sizes) ≡ nothing → Right sizes frames
 sizes-right [] frames h e = absurd (omega arith)
 sizes-right (n ∷ ns) frames h e =
@@ -107,7 +97,8 @@ sizes-right (n ∷ ns) frames h e =
     let zero = someZero sizes in
     let same = eqb (total sizes) frames in
     let f = passed-by (wrong sizes frames) 20 nothing e .not-held in
-    record { no-zero = or-left zero (not same) f; adds-up = eqb-true (total sizes) frames (not-false same (or-right zero (not same) f)) }
+    let both = or-is-false zero (not same) .0 f in
+    record { no-zero = both .0; adds-up = eqb-true (total sizes) frames (not-false same (both .1)) }
 
 -- no list takes no frame
 pub total-fits : (sizes : List ℕ) (frames : ℕ) → verdict (sizeRefusals frames sizes) ≡ nothing → total sizes ≤ frames
@@ -119,8 +110,8 @@ total-fits (n ∷ ns) frames e = omega (arith, sizes-right (n ∷ ns) frames (om
 pub size-some : (sizes : List ℕ) (g : ℕ) → someZero sizes ≡ false → g < length sizes → 0 < getD sizes g 0
 unfolding someZero
 size-some [] g z h = absurd (omega arith)
-size-some (n ∷ ns) zero z h = some-size n (eqb-false n 0 (or-left (eqb n 0) (someZero ns) z))
-size-some (n ∷ ns) (suc g) z h = size-some ns g (or-right (eqb n 0) (someZero ns) z) (omega arith)
+size-some (n ∷ ns) zero z h = pos-of-ne-zero (eqb-false n 0 (or-is-false (eqb n 0) (someZero ns) .0 z .0))
+size-some (n ∷ ns) (suc g) z h = size-some ns g (or-is-false (eqb n 0) (someZero ns) .0 z .1) (omega arith)
 
 pub span-fits : (sizes : List ℕ) (g : ℕ) → g < length sizes → total (take g sizes) + getD sizes g 0 ≤ total sizes
 unfolding total

@@ -7,7 +7,7 @@ use native.Mathlib.Omega.{arith}
 use lib.ListN.{length, take, drop, length-take, length-drop}
 use lib.Seq.{take-add, drop-drop}
 use Rattle.tanner.specs.Flat.{Below}
-use Rattle.ldpc_codes.proofs.Codewords.{below-none, below-append}
+use Rattle.tanner.proofs.Below.{below-none, below-append}
 
 -- frame j's
 abbrev pub frameAt : ℕ → ℕ → List ℕ → List ℕ

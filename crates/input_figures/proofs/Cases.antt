@@ -1,4 +1,5 @@
--- Answers known beforehand, computed: document 01's sample adds one frame, which is clean; eleven bytes are malformed; a code 4 is refused as the batch does it.
+-- Answers known beforehand, computed: document 01's sample adds one frame, which is clean; eleven bytes are malformed; a code 4 is refused as the batch does
+-- it.
 use mathlib.Core.Path.{_≡_, refl}
 use mathlib.Core.List.{List, [], _∷_}
 use Prim.Native.Nat.{ℕ}
@@ -29,8 +30,10 @@ sample code =
     ∷ joined (replicate 174 (0 ∷ 0 ∷ 0x80 ∷ 0x3f ∷ []))
 
 one-clean : inputAdded nothingYet (sample 3) ≡ accepted (record { frames = 1; clean = 1; counts = 0; rounds = 0 })
-unfolding inputAdded sample joined batchFrames framesFrom totalsOf frameClean anyNan isNan checksumRight lowBits qex divide bringDown numberAfter pairNumbers valuesOf floatOf u32sFrom malformed sizeN sizeK refusalsOf pairRefusals pairsOf
-    frameOf written decodeBy chosen chosenCount chosenFirst chosenBits chosenFrom initialWord roundWords roundsRun firstBy parity count checks rowsOfSeven nm numRows decide ofBits ofFields odd le lt eq ruleNotOfCode
+unfolding inputAdded sample joined batchFrames framesFrom totalsOf frameClean anyNan isNan checksumRight lowBits qex divide bringDown numberAfter pairNumbers
+    valuesOf floatOf u32sFrom malformed sizeN sizeK refusalsOf pairRefusals pairsOf
+    frameOf written decodeBy chosen chosenCount chosenFirst chosenBits chosenFrom initialWord roundWords roundsRun firstBy parity count checks rowsOfSeven nm
+    numRows decide ofBits ofFields odd le lt eq ruleNotOfCode
 one-clean = refl
 
 not-counted : (inputAdded nothingYet (replicate 11 0) ≡ refused 13) × (inputAdded nothingYet (sample 4) ≡ refused 1)

@@ -1,4 +1,5 @@
--- Document 01's cases of the staircase count, for each of the three codes: "last bit alone: 1", "Bit K alone: 2", "Message bit 0 alone: 3, but 0 if its byte is 2".
+-- Document 01's cases of the staircase count, for each of the three codes: "last bit alone: 1", "Bit K alone: 2", "Message bit 0 alone: 3, but 0 if its byte is
+-- 2".
 -- A word with one bit counts the checks that name its place an odd number of times, which is computed from the checks.
 use mathlib.Core.Path.{_≡_, refl, _∙_}
 use mathlib.Core.Bool.{Bool, true, false, cond}

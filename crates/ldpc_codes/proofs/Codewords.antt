@@ -1,18 +1,19 @@
 -- The encoding, for any message columns: filling in the parity bits one check after another gives it, and a word of N bits has count 0
 -- exactly when it is the encoding of its first K bits. Inductions over the rows, from what one row's parity is.
 use mathlib.Core.Path.{_≡_, refl, sym, ap, _∙_}
-use mathlib.Core.Bool.{Bool, true, false, cond}
 use mathlib.Core.List.{List, [], _∷_, _++_, append-assoc}
 use Prim.Native.Nat.{ℕ, zero, suc, _+_, _%_, _≤_, _<_}
 use native.Mathlib.Nat.{add-zero, add-suc}
 use native.Mathlib.Omega.{arith}
 use lib.ListN.{length, getD, take, drop, set, length-append, length-drop, take-append-drop, List·getD-append}
 use lib.Seq.{take-at, set-at, getD-at, getD-append-add, length-take-le}
-use Rattle.construction.specs.Columns.{holds}
 use Rattle.tanner.specs.Checks.{Word, parity, count, countMasked, lowBits}
-use Rattle.tanner.specs.Flat.{Below, joined}
+use Rattle.tanner.specs.Flat.{Below}
 use Rattle.tanner.proofs.Count.{low-length, parity-bit, parity-front, low-count, bits-low}
+use Rattle.tanner.proofs.Below.{below-none, below-cons, below-first, below-rest, below-append, below-left, below-right}
 use Rattle.staircase.specs.Staircase.{taps, parityEntries, checkRow, checkRows, checksOf, parityBits, encoded}
+pub use Rattle.staircase.proofs.Positions.{checks-length}
+use Rattle.staircase.proofs.Positions.{taps-below}
 use Rattle.stairs.specs.Stairs.{bitBefore, filled}
 
 -- ---- the parity of one row
@@ -30,45 +31,6 @@ row-parity : (k : ℕ) (cols : List (List ℕ)) (i : ℕ) (w : Word)
     → parity (checkRow k cols i) w ≡ (parity (taps i 0 cols) w + (getD w (k + i) 0 + bitBefore k i w)) % 2
 unfolding checkRow
 row-parity k cols i w = omega (arith, parity-append (taps i 0 cols) (parityEntries k i) w, entries-parity k i w)
-
--- ---- the message columns of a row are below K
-pub below-none : (n : ℕ) → Below n []
-unfolding Below
-below-none n i h = absurd (omega arith)
-
-below-cons : (n x : ℕ) (l : List ℕ) → x < n → Below n l → Below n (x ∷ l)
-unfolding Below
-below-cons n x l h b zero k = h
-below-cons n x l h b (suc i) k = b i (omega arith)
-
-below-if : (n x : ℕ) (l : List ℕ) (b : Bool) → x < n → Below n l → Below n (cond b (x ∷ l) l)
-below-if n x l true h b = below-cons n x l h b
-below-if n x l false h b = b
-
-pub taps-below : (n i j : ℕ) (cols : List (List ℕ)) → j + length cols ≤ n → Below n (taps i j cols)
-unfolding taps
-taps-below n i j [] h = below-none n
-taps-below n i j (c ∷ cs) h = below-if n j (taps i (suc j) cs) (holds c i) (omega arith) (taps-below n i (suc j) cs (omega arith))
-
-first-below : (n x : ℕ) (l : List ℕ) → Below n (x ∷ l) → x < n
-unfolding Below
-first-below n x l b = b 0 (omega arith)
-
-rest-below : (n x : ℕ) (l : List ℕ) → Below n (x ∷ l) → Below n l
-unfolding Below
-rest-below n x l b i h = b (suc i) (omega arith)
-
-pub below-append : (n : ℕ) (xs ys : List ℕ) → Below n xs → Below n ys → Below n (xs ++ ys)
-below-append n [] ys p q = q
-below-append n (x ∷ xs) ys p q = below-cons n x (xs ++ ys) (first-below n x xs p) (below-append n xs ys (rest-below n x xs p) q)
-
-left-below : (n : ℕ) (xs ys : List ℕ) → Below n (xs ++ ys) → Below n xs
-left-below n [] ys p = below-none n
-left-below n (x ∷ xs) ys p = below-cons n x xs (first-below n x (xs ++ ys) p) (left-below n xs ys (rest-below n x (xs ++ ys) p))
-
-right-below : (n : ℕ) (xs ys : List ℕ) → Below n (xs ++ ys) → Below n ys
-right-below n [] ys p = p
-right-below n (x ∷ xs) ys p = right-below n xs ys (rest-below n x (xs ++ ys) p)
 
 -- ---- what the parity of a row is, in a word that starts with the message
 module _ (k : ℕ) (cols : List (List ℕ)) (size : length cols ≤ k) where
@@ -137,14 +99,17 @@ module _ (k : ℕ) (cols : List (List ℕ)) (size : length cols ≤ k) (message 
   count-zero (suc n) i ps [] e f bp bq z = absurd (omega arith)
   count-zero (suc n) i ps (x ∷ qs) e f bp bq z =
       let t = parity (taps i 0 cols) message in
-      let bit : x < 2 = first-below 2 x qs bq in
+      let bit : x < 2 = below-first 2 x qs bq in
       let own = row-is i ps x qs e in
       let here : x ≡ (t + lastOf ps) % 2 = omega (arith, own, z, last-bit ps bp, parity-bit (taps i 0 cols) message) in
       let more : count (checkRows k cols (suc i) n) (message ++ ((ps ++ (x ∷ [])) ++ qs)) ≡ 0 = rw (append-assoc ps (x ∷ []) qs) (omega (arith, z)) in
-      let rest = count-zero n (suc i) (ps ++ (x ∷ [])) qs (simp length-append (omega arith)) (omega arith) (below-append 2 ps (x ∷ []) bp (below-cons 2 x [] bit (below-none 2))) (rest-below 2 x qs bq) more in
+      let rest =
+      count-zero n (suc i) (ps ++ (x ∷ [])) qs (simp length-append (omega arith)) (omega arith)
+      (below-append 2 ps (x ∷ []) bp (below-cons 2 x [] bit (below-none 2))) (below-rest 2 x qs bq) more in
       rw (← here) (ap (λ (l : List ℕ). x ∷ l) (rest ∙ rw (last-snoc ps x)))
 
-  count-parity : (n i : ℕ) (ps : List ℕ) → length ps ≡ i → Below 2 ps → count (checkRows k cols i n) (message ++ (ps ++ parityBits cols message i n (lastOf ps))) ≡ 0
+  count-parity : (n i : ℕ) (ps : List ℕ) → length ps ≡ i → Below 2 ps
+      → count (checkRows k cols i n) (message ++ (ps ++ parityBits cols message i n (lastOf ps))) ≡ 0
   unfolding checkRows count parityBits
   count-parity zero i ps e b = refl
   count-parity (suc n) i ps e b =
@@ -152,7 +117,9 @@ module _ (k : ℕ) (cols : List (List ℕ)) (size : length cols ≤ k) (message 
       let x = (t + lastOf ps) % 2 in
       let qs = parityBits cols message (suc i) n x in
       let own = row-is i ps x qs e in
-      let rest = count-parity n (suc i) (ps ++ (x ∷ [])) (simp length-append (omega arith)) (below-append 2 ps (x ∷ []) b (below-cons 2 x [] (omega arith) (below-none 2))) in
+      let rest =
+      count-parity n (suc i) (ps ++ (x ∷ [])) (simp length-append (omega arith))
+      (below-append 2 ps (x ∷ []) b (below-cons 2 x [] (omega arith) (below-none 2))) in
       let same : message ++ ((ps ++ (x ∷ [])) ++ qs) ≡ message ++ (ps ++ (x ∷ qs)) = rw (append-assoc ps (x ∷ []) qs) in
       let more : count (checkRows k cols (suc i) n) (message ++ (ps ++ (x ∷ qs))) ≡ 0 = rw (last-snoc ps x, same) at rest in
       omega (arith, own, more, last-bit ps b, parity-bit (taps i 0 cols) message)
@@ -178,8 +145,8 @@ module _ (k m : ℕ) (cols : List (List ℕ)) (size : length cols ≤ k) where
   zero-count-encoded w long bits z =
       let e : length (take k w) ≡ k = length-take-le k w (omega arith) in
       let whole : take k w ++ drop k w ≡ w = take-append-drop k w in
-      let front : Below 2 (take k w) = left-below 2 (take k w) (drop k w) (rw whole bits) in
-      let back : Below 2 (drop k w) = right-below 2 (take k w) (drop k w) (rw whole bits) in
+      let front : Below 2 (take k w) = below-left 2 (take k w) (drop k w) (rw whole bits) in
+      let back : Below 2 (drop k w) = below-right 2 (take k w) (drop k w) (rw whole bits) in
       let parts = count-zero k cols size (take k w) e m 0 [] (drop k w) refl (simp length-drop (omega arith)) (below-none 2) back (rw whole z) in
       rw (bits-low (take k w) front) (sym whole ∙ ap (λ (l : List ℕ). take k w ++ l) parts)
 
@@ -210,10 +177,13 @@ module _ (k : ℕ) (cols : List (List ℕ)) (size : length cols ≤ k) (message 
   fill-from (suc n) i ps [] e f b = absurd (omega arith)
   fill-from (suc n) i ps (y ∷ junk) e f b =
       let x = (parity (taps i 0 cols) (lowBits message) + lastOf ps) % 2 in
-      let rest = fill-from n (suc i) (ps ++ (x ∷ [])) junk (simp length-append (omega arith)) (omega arith) (below-append 2 ps (x ∷ []) b (below-cons 2 x [] (omega arith) (below-none 2))) in
+      let rest =
+      fill-from n (suc i) (ps ++ (x ∷ [])) junk (simp length-append (omega arith)) (omega arith)
+      (below-append 2 ps (x ∷ []) b (below-cons 2 x [] (omega arith) (below-none 2))) in
       let row = checkRow k cols i in
       let w = message ++ (ps ++ (y ∷ junk)) in
-      let own : countMasked 1 (row ∷ []) (set w (k + i) 0) ≡ x = ap (countMasked 1 (row ∷ [])) (set-place k i message ps y 0 junk long e) ∙ own-count i ps junk e b in
+      let own : countMasked 1 (row ∷ []) (set w (k + i) 0) ≡ x =
+      ap (countMasked 1 (row ∷ [])) (set-place k i message ps y 0 junk long e) ∙ own-count i ps junk e b in
       let stored : set w (k + i) (countMasked 1 (row ∷ []) (set w (k + i) 0)) ≡ message ++ ((ps ++ (x ∷ [])) ++ junk) =
       ap (set w (k + i)) own ∙ set-place k i message ps y x junk long e ∙ ap (λ (l : List ℕ). message ++ l) (sym (append-assoc ps (x ∷ []) junk))
       in
@@ -223,28 +193,3 @@ module _ (k : ℕ) (cols : List (List ℕ)) (size : length cols ≤ k) (message 
   pub fill-all : (m : ℕ) (junk : List ℕ) → length junk ≡ m → filled (checksOf k m cols) k (message ++ junk) ≡ encoded m cols message
   unfolding encoded lastOf
   fill-all m junk f = rw add-zero at (fill-from m 0 [] junk refl f (below-none 2))
-
--- ---- the rows are as many as the parity bits, and cover positions below N
-rows-length : (k : ℕ) (cols : List (List ℕ)) (i n : ℕ) → length (checkRows k cols i n) ≡ n
-unfolding checkRows
-rows-length k cols i zero = refl
-rows-length k cols i (suc n) = ap suc (rows-length k cols (suc i) n)
-
-pub checks-length : (k m : ℕ) (cols : List (List ℕ)) → length (checksOf k m cols) ≡ m
-checks-length k m cols = rows-length k cols 0 m
-
-entries-below : (k i n : ℕ) → k + i < n → Below n (parityEntries k i)
-unfolding parityEntries
-entries-below k zero n h = below-cons n k [] (omega arith) (below-none n)
-entries-below k (suc i) n h = below-cons n _ _ h (below-cons n (k + i) [] (omega arith) (below-none n))
-
-rows-below : (k : ℕ) (cols : List (List ℕ)) (m i n : ℕ) → length cols ≤ k → i + n ≤ m → Below (k + m) (joined (checkRows k cols i n))
-unfolding joined checkRows checkRow
-rows-below k cols m i zero size h = below-none (k + m)
-rows-below k cols m i (suc n) size h =
-    below-append (k + m) _ _
-    (below-append (k + m) (taps i 0 cols) _ (taps-below (k + m) i 0 cols (omega arith)) (entries-below k i (k + m) (omega arith)))
-    (rows-below k cols m (suc i) n size (omega arith))
-
-pub checks-below : (k m : ℕ) (cols : List (List ℕ)) → length cols ≤ k → Below (k + m) (joined (checksOf k m cols))
-checks-below k m cols size = rows-below k cols m 0 m size (omega arith)

@@ -12,20 +12,29 @@ use lib.Seq.{set-at, drop-cons, take-suc, append-snoc, length-take-le}
 use Rattle.refusal.specs.Outcome.{Outcome, judged, kept}
 use Rattle.construction.specs.Codes.{Code, blockLength}
 use Rattle.tanner.specs.Checks.{lowBits, Syndrome, syndromeMasked}
-use Rattle.tanner.specs.Flat.{joined, offsets, Below, FlatChecks}
+use Rattle.tanner.specs.Flat.{joined, offsets, FlatChecks}
 use Rattle.tanner.proofs.First.{low-syndrome, front-syndrome}
 use Rattle.tanner.proofs.Flat.{flat-checks, all-below}
 use Rattle.staircase.specs.Codes.{columns, checks}
 use Rattle.staircase.specs.Shape.{stairs}
 use Rattle.staircase.proofs.EdgeCount.{columns-length}
+use Rattle.staircase.proofs.Positions.{checks-low, checks-many}
 use Rattle.stairs.specs.Stairs.{filled}
 use Rattle.ldpc_codes.specs.Calls.{lengthRefusals, codeLengths, codewordOf, shortWord, syndromeOf}
-use Rattle.ldpc_codes.proofs.Codewords.{checks-length, checks-below, fill-all}
+use Rattle.ldpc_codes.proofs.Codewords.{fill-all}
 
 -- ---- the copy of the message
-pub copied-more : (s u v : List ℕ) (i : ℕ) → i < length s → length s ≤ length u → v ≡ take i s ++ drop i u → set v i (getD s i 0) ≡ take (i + 1) s ++ drop (i + 1) u
+pub copied-more : (s u v : List ℕ) (i : ℕ) → i < length s → length s ≤ length u → v ≡ take i s ++ drop i u
+    → set v i (getD s i 0) ≡ take (i + 1) s ++ drop (i + 1) u
 copied-more s u v i h fits e =
-    rw (e, drop-cons u i 0 (omega arith), set-at (take i s) (getD u i 0) (drop (suc i) u) (getD s i 0) i (length-take-le i s (omega arith)), add-one, take-suc s i 0 h)
+    rw (
+      e,
+      drop-cons u i 0 (omega arith),
+      set-at (take i s) (getD u i 0) (drop (suc i) u) (getD s i 0) i (length-take-le i s (omega arith)),
+      add-one,
+      take-suc
+          s i 0 h,
+    )
     (sym (append-snoc (take i s) (getD s i 0) (drop (suc i) u)))
 
 -- ---- a code whose checks lie in the tables
@@ -35,24 +44,17 @@ low-take zero bytes = refl
 low-take (suc n) [] = refl
 low-take (suc n) (b ∷ bytes) = ap (λ (l : List ℕ). (b % 2) ∷ l) (low-take n bytes)
 
-low-checks : (c : Code) → Below (blockLength c) (joined (checks c))
-unfolding checks
-low-checks c = checks-below (c .k) (c .m) (columns c) (omega (arith, columns-length c))
-
-pub checks-are : (c : Code) → length (checks c) ≡ c .m
-unfolding checks
-checks-are c = checks-length (c .k) (c .m) (columns c)
-
 -- flat, with starts
-pub laid-flat : (c : Code) (starts flat : List ℕ) → starts ≡ offsets (checks c) → flat ≡ joined (checks c) → c .m < 65536 → FlatChecks starts flat (blockLength c)
-laid-flat c starts flat s f h = rw (s, f) (flat-checks (checks c) (blockLength c) (omega (arith, checks-are c)) (low-checks c))
+pub laid-flat : (c : Code) (starts flat : List ℕ) → starts ≡ offsets (checks c) → flat ≡ joined (checks c) → c .m < 65536
+    → FlatChecks starts flat (blockLength c)
+laid-flat c starts flat s f h = rw (s, f) (flat-checks (checks c) (blockLength c) (omega (arith, checks-many c)) (checks-low c))
 
 -- by its shape
 module _ (c : Code) (width : ℕ) (table : List ℕ) (t : stairs (c .k) width (c .m) table ≡ checks c) where
   laid-weight : (hard : List ℕ) → syndromeMasked 1 (stairs (c .k) width (c .m) table) hard ≡ syndromeOf c hard
   laid-weight hard =
       rw (t, low-take (blockLength c) hard)
-      (low-syndrome (checks c) hard ∙ sym (front-syndrome (blockLength c) (lowBits hard) (all-below (blockLength c) (checks c) (low-checks c))))
+      (low-syndrome (checks c) hard ∙ sym (front-syndrome (blockLength c) (lowBits hard) (all-below (blockLength c) (checks c) (checks-low c))))
 
   laid-encoded : (message codeword : List ℕ) → length message ≡ c .k → length codeword ≡ blockLength c
       → filled (stairs (c .k) width (c .m) table) (c .k) (message ++ drop (length message) codeword) ≡ codewordOf c message

@@ -4,8 +4,7 @@ use mathlib.Core.List.{List, [], _∷_}
 use Prim.Native.Nat.{ℕ}
 use lib.Dec.{eqb, ltb}
 use lib.ListN.{length, take}
-use Rattle.refusal.specs.Outcome.{Outcome, accepted, refused, Condition, _when_}
-use Rattle.refusal.specs.Numbers.{numberOf}
+use Rattle.refusal.specs.Outcome.{Condition, _when_}
 use Rattle.construction.specs.Codes.{Code, blockLength}
 use Rattle.tanner.specs.Checks.{lowBits, Syndrome, syndrome}
 use Rattle.staircase.specs.Staircase.{encoded}

@@ -33,7 +33,10 @@ pub sample-listing : listingOf sample ≡
     99 ∷ 111 ∷ 100 ∷ 101 ∷ 32 ∷ 51 ∷ 32 ∷ 114 ∷ 117 ∷ 108 ∷ 101 ∷ 32 ∷ 48 ∷ 32 ∷ 108 ∷ 105 ∷ 109 ∷ 105 ∷ 116 ∷ 32 ∷ 50 ∷ 48 ∷ 32 ∷ 102 ∷ 114 ∷ 97 ∷
     109 ∷ 101 ∷ 115 ∷ 32 ∷ 49 ∷ 10 ∷ 48 ∷ 32 ∷ 48 ∷ 32 ∷ 48 ∷ 32 ∷ 99 ∷ 108 ∷ 101 ∷ 97 ∷ 110 ∷ 32 ∷ 48 ∷ 48 ∷ 48 ∷ 48 ∷ 48 ∷ 48 ∷ 48 ∷ 48 ∷ 48 ∷ 48 ∷
     48 ∷ 48 ∷ 48 ∷ 48 ∷ 48 ∷ 48 ∷ 48 ∷ 48 ∷ 48 ∷ 48 ∷ 48 ∷ 48 ∷ 48 ∷ 48 ∷ 10 ∷ []
-unfolding sample joined listingOf framesText headLine field decimal leading linesFrom frameLine cleanOrOpen firstField frameClean anyNan isNan checksumRight lowBits qex divide bringDown numberAfter hex hexFrom hexDigit byteAt pairNumbers valuesOf floatOf u32sFrom malformed sizeN sizeK refusalsOf pairRefusals pairsOf frameOf written decodeBy chosen chosenCount chosenFirst chosenBits chosenFrom initialWord roundWords roundsRun firstBy parity count checks rowsOfSeven nm numRows decide ofBits ofFields odd le lt eq ruleNotOfCode
+unfolding sample joined listingOf framesText headLine field decimal leading linesFrom frameLine cleanOrOpen firstField frameClean anyNan isNan checksumRight
+    lowBits qex divide bringDown numberAfter hex hexFrom hexDigit byteAt pairNumbers valuesOf floatOf u32sFrom malformed sizeN sizeK refusalsOf pairRefusals
+    pairsOf frameOf written decodeBy chosen chosenCount chosenFirst chosenBits chosenFrom initialWord roundWords roundsRun firstBy parity count checks
+    rowsOfSeven nm numRows decide ofBits ofFields odd le lt eq ruleNotOfCode
 sample-listing = refl
 
 -- `refused 13`

@@ -1,4 +1,5 @@
--- The lengths of the listing's texts, as sums over their parts, and their bounds: a frame has at most 384 bits, and there are at most 24 frames. Assumes nothing.
+-- The lengths of the listing's texts, as sums over their parts, and their bounds: a frame has at most 384 bits, and there are at most 24 frames. Assumes
+-- nothing.
 use mathlib.Core.Path.{_≡_}
 use mathlib.Core.Bool.{Bool, true, false, cond}
 use mathlib.Core.List.{List, []}
@@ -37,9 +38,20 @@ first-short : (count first : ℕ) → length (firstField count first) ≤ 6
 unfolding firstField
 first-short count first = short-by (eqb count 0) first
 
-pub frame-short : (place count rounds : ℕ) (clean : Bool) (bits : List ℕ) (first : ℕ) → length bits ≤ 384 → length (frameLine place count rounds clean bits first) ≤ 127
+pub frame-short : (place count rounds : ℕ) (clean : Bool) (bits : List ℕ) (first : ℕ) → length bits ≤ 384
+    → length (frameLine place count rounds clean bits first) ≤ 127
 frame-short place count rounds clean bits first h =
-    omega (arith, frame-length place count rounds clean bits first, decimal-short place, field-short count, field-short rounds, state-short clean, hex-length bits, first-short count first)
+    omega (
+      arith,
+      frame-length place count rounds clean bits first,
+      decimal-short place,
+      field-short count,
+      field-short rounds,
+      state-short clean,
+      hex-length
+          bits,
+      first-short count first,
+    )
 
 pub head-short : (code rule limit frames : ℕ) → length (headLine code rule limit frames) ≤ 47
 head-short code rule limit frames =

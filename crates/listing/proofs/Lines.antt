@@ -42,16 +42,19 @@ bits-few : (code : ℕ) (bits : List ℕ) (j : ℕ) → length (bitsOf code bits
 bits-few code bits j = omega (arith, length-take (sizeK code) (drop (j * sizeK code) bits), size-small code .bits)
 
 -- the line of the frame at place j, as it is written: its bits begin at `from`
-pub line-is : (code : ℕ) (fs : List (List Float)) (l : Lent) (j from k : ℕ) (clean : Bool) → from ≡ j * k → k ≡ sizeK code → clean ≡ cleanOf code fs (l .counts) (l .bits) j
+pub line-is : (code : ℕ) (fs : List (List Float)) (l : Lent) (j from k : ℕ) (clean : Bool) → from ≡ j * k → k ≡ sizeK code
+    → clean ≡ cleanOf code fs (l .counts) (l .bits) j
     → frameLine j (getD (l .counts) j 0) (getD (l .rounds) j 0) clean (take (from + k - from) (drop from (l .bits))) (getD (l .firsts) j 0) ≡ lineAt code fs l j
 line-is code fs l j from k clean e s c =
     rw (e, c)
-    (ap (λ (b : List ℕ). frameLine j (getD (l .counts) j 0) (getD (l .rounds) j 0) (cleanOf code fs (l .counts) (l .bits) j) b (getD (l .firsts) j 0)) (bits-at (l .bits) j k (sizeK code) s))
+    (ap (λ (b : List ℕ). frameLine j (getD (l .counts) j 0) (getD (l .rounds) j 0) (cleanOf code fs (l .counts) (l .bits) j) b (getD (l .firsts) j 0))
+    (bits-at (l .bits) j k (sizeK code) s))
 
 -- a frame's line is short
 pub line-short : (code : ℕ) (fs : List (List Float)) (l : Lent) (j : ℕ) → length (lineAt code fs l j) ≤ 127
 line-short code fs l j =
-    frame-short j (getD (l .counts) j 0) (getD (l .rounds) j 0) (cleanOf code fs (l .counts) (l .bits) j) (bitsOf code (l .bits) j) (getD (l .firsts) j 0) (bits-few code (l .bits) j)
+    frame-short j (getD (l .counts) j 0) (getD (l .rounds) j 0) (cleanOf code fs (l .counts) (l .bits) j) (bitsOf code (l .bits) j) (getD (l .firsts) j 0)
+    (bits-few code (l .bits) j)
 
 -- the whole text is short
 pub frames-short : (b : Batch) (l : Lent) → length (b .pairs) ≤ 24 → length (framesText b l) ≤ 4096
@@ -81,8 +84,10 @@ module _ (s : List ℕ) (good : malformed s ≡ false) where
   accepted-short v = rw (← accepted-text v) (frames-short (batchIn s) (written (batchIn s)) (omega (arith, pairs-many s, accepted-few s v)))
 
   -- the lines of what the call was handed and left are the listing, whatever is in the work area
-  pub fronts-text : verdict (refusals (batchIn s)) ≡ nothing → {values : List Float} {pairs bits counts rounds firsts : List ℕ} → values ≡ valuesOf s → pairs ≡ pairNumbers s
+  pub fronts-text : verdict (refusals (batchIn s)) ≡ nothing → {values : List Float} {pairs bits counts rounds firsts : List ℕ} → values ≡ valuesOf s
+      → pairs ≡ pairNumbers s
       → bits ≡ written (batchIn s) .bits → counts ≡ written (batchIn s) .counts → rounds ≡ written (batchIn s) .rounds → firsts ≡ written (batchIn s) .firsts
-      → framesText (batch (codeOf s) (ruleOf s) (limitOf s) (scaleOf s) values (pairsOf pairs) (lent [] [] [] [] [])) (lent bits counts rounds firsts []) ≡ listingOf s
+      → framesText (batch (codeOf s) (ruleOf s) (limitOf s) (scaleOf s) values (pairsOf pairs) (lent [] [] [] [] []))
+      (lent bits counts rounds firsts []) ≡ listingOf s
   unfolding framesText
   fronts-text v ev ep eb ec er ef = rw (ev, ep, eb, ec, er, ef) (accepted-text v)

@@ -24,7 +24,8 @@ module _ (a : Asked) where
     itsWork = sym (kept-refused (refusals a) (a .work) _ n e);
   }
 
-  pub explained : verdict (refusals a) ≡ nothing → (r : Reason) (word : List ℕ) (work : List Float) → r ≡ reasonUnder (a .code) (a .rule) (a .scale) (a .values) (a .limit)
+  pub explained : verdict (refusals a) ≡ nothing → (r : Reason) (word : List ℕ) (work : List Float)
+      → r ≡ reasonUnder (a .code) (a .rule) (a .scale) (a .values) (a .limit)
       → word ≡ chosen (decodeOf (a .code) (a .rule) (a .scale) (a .values)) (a .limit) → work ≡ cleared (a .work) → Answered a (accepted r) word work
   explained e r word work p q z = record {
     says = ap accepted p ∙ sym (judged-accepted (refusals a) _ e);
@@ -33,8 +34,16 @@ module _ (a : Asked) where
   }
 
   -- the numbers and the lengths are right
-  pub all-right : a .code ≤ 3 → a .rule ≤ 4 → ruleNotOfCode (a .code) (a .rule) ≡ false → length (a .values) ≡ sizeN (a .code) → length (a .word) ≡ sizeN (a .code)
+  pub all-right : a .code ≤ 3 → a .rule ≤ 4 → ruleNotOfCode (a .code) (a .rule) ≡ false → length (a .values) ≡ sizeN (a .code)
+      → length (a .word) ≡ sizeN (a .code)
       → 3070 ≤ length (a .work) → verdict (refusals a) ≡ nothing
   unfolding refusals
   all-right c r own v w k =
-      simp (le-ltb 3 (a .code) c, le-ltb 4 (a .rule) r, own, eq-eqb (length (a .values)) (sizeN (a .code)) v, eq-eqb (length (a .word)) (sizeN (a .code)) w, le-ltb (length (a .work)) 3070 k)
+      simp (
+        le-ltb 3 (a .code) c,
+        le-ltb 4 (a .rule) r,
+        own,
+        eq-eqb (length (a .values)) (sizeN (a .code)) v,
+        eq-eqb (length (a .word)) (sizeN (a .code)) w,
+        le-ltb (length (a .work)) 3070 k,
+      )

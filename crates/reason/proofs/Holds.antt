@@ -95,7 +95,8 @@ module _ (code : ℕ) (values : List Float) (word : Word) where
       wrong true h e = eqb-false (payloadChecksum bits) (carriedChecksum bits) h (sym e)
       wrong false h e = let z : _≡_ {A = ℕ} 0 1 = cc in omega arith
 
-  by-check : NoNan values → (f : First) → first ≡ f → FirstIs (λ r. parity r word) (checksOf code) f → Holds code values word (checkOr f (checksumOr code bits Clean))
+  by-check : NoNan values → (f : First) → first ≡ f → FirstIs (λ r. parity r word) (checksOf code) f
+      → Holds code values word (checkOr f (checksumOr code bits Clean))
   unfolding checksumOr
   by-check all _ e (counted c h n below) = byCheck c all (counted c h n below)
   by-check all _ e (satisfied each) = by-checksum all e (satisfied each) (not (eqb code 3) || checksumRight bits) refl

@@ -40,8 +40,11 @@ module _ (code rule : ℕ) (scale : Float) (values : List Float) (limit : ℕ) w
 
     first-is : firstOf (r .first) ≡ firstUnsatisfied (checksOf code) (chosen d limit)
     unfolding chosenFirst
-    first-is = ap (λ (t : Told). t .first) (chose .tells) ∙ ap (λ (cs : Checks). firstUnsatisfied cs (chosen d limit)) (checks-are code (ruleOf code rule scale) values)
+    first-is =
+        ap (λ (t : Told). t .first) (chose .tells)
+        ∙ ap (λ (cs : Checks). firstUnsatisfied cs (chosen d limit)) (checks-are code (ruleOf code rule scale) values)
 
-    pub reason-is : nanOr (firstNan 0 values) (checkOr (firstOf (r .first)) (checksumOr code (take (sizeK code) word) Clean)) ≡ reasonUnder code rule scale values limit
+    pub reason-is : nanOr (firstNan 0 values) (checkOr (firstOf (r .first)) (checksumOr code (take (sizeK code) word) Clean))
+        ≡ reasonUnder code rule scale values limit
     unfolding reasonUnder reasonFor
     reason-is = rw (first-is, word-whole)

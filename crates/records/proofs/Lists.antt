@@ -31,7 +31,8 @@ use Rattle.records.specs.Fields.{pairsOf}
 use Rattle.records.proofs.Types.{pair}
 
 abbrev pub params : List (Param 7)
-params = plain-param (nat w32) ∷ plain-param (nat w32) ∷ plain-param (nat w16) ∷ plain-param (real binary32) ∷ shared-slice 0 tt f32 ∷ shared-slice 1 tt (pair .row)
+params =
+    plain-param (nat w32) ∷ plain-param (nat w32) ∷ plain-param (nat w16) ∷ plain-param (real binary32) ∷ shared-slice 0 tt f32 ∷ shared-slice 1 tt (pair .row)
     ∷ kept-slice 2 tt u8 ∷ kept-slice 3 tt u16 ∷ kept-slice 4 tt u16 ∷ kept-slice 5 tt u16 ∷ kept-slice 6 tt f32 ∷ []
 
 pub record Numbers : Type 0 where
@@ -96,7 +97,8 @@ all-lasts ws = (tt, (tt, (tt, (tt, (tt, (tt, ws))))))
 -- ---- what was passed, each list at a lifetime of its own
 abbrev pub numbers-of : (code rule limit : ℕ) (scale : Float) → Is (nat w32 .row) code (vint w32 code ∷ []) → Is (nat w32 .row) rule (vint w32 rule ∷ [])
     → Is (nat w16 .row) limit (vint w16 limit ∷ []) → Is (real binary32 .row) scale (vfloat binary32 scale ∷ []) → Numbers
-numbers-of code rule limit scale c r l s = record { code = code; rule = rule; limit = limit; scale = scale; code-is = c; rule-is = r; limit-is = l; scale-is = s }
+numbers-of code rule limit scale c r l s =
+    record { code = code; rule = rule; limit = limit; scale = scale; code-is = c; rule-is = r; limit-is = l; scale-is = s }
 
 abbrev pub Passed : Type 0
 Passed = RefT (List Float) × (RefT (List Pair) × (RefT (List ℕ) × (RefT (List ℕ) × (RefT (List ℕ) × (RefT (List ℕ) × (RefT (List Float) × Unit {0}))))))

@@ -23,7 +23,8 @@ passed-by true n rest e = let z : _≡_ {A = ℕ} 0 1 = cc in absurd (omega arit
 passed-by false n rest e = record { not-held = refl; others = e }
 
 module _ {A : Type 0} where
-  judged-past-by : (t : Bool) (n : ℕ) (rest : Outcome Unit) (x y : Outcome A) → cond t (refused n) rest ≡ nothing → (rest ≡ nothing → x ≡ y) → cond t (refused n) x ≡ y
+  judged-past-by : (t : Bool) (n : ℕ) (rest : Outcome Unit) (x y : Outcome A) → cond t (refused n) rest ≡ nothing → (rest ≡ nothing → x ≡ y)
+      → cond t (refused n) x ≡ y
   judged-past-by t n rest x y e f = let p = passed-by t n rest e in rw (p .not-held) (f (p .others))
 
   pub judged-past : (xs ys : List Condition) (a : A) → verdict xs ≡ nothing → judged (xs ++ ys) a ≡ judged ys a
@@ -38,7 +39,8 @@ module _ {A : Type 0} where
   kept-past (c ∷ xs) ys old new e =
       kept-past-by (c .holds) (c .number) (verdict xs) old (kept (xs ++ ys) old new) (kept ys old new) e (kept-past xs ys old new)
 
-  judged-front-by : (t : Bool) (n k : ℕ) (rest : Outcome Unit) (x : Outcome A) → cond t (refused n) rest ≡ refused k → (rest ≡ refused k → x ≡ refused k) → cond t (refused n) x ≡ refused k
+  judged-front-by : (t : Bool) (n k : ℕ) (rest : Outcome Unit) (x : Outcome A) → cond t (refused n) rest ≡ refused k → (rest ≡ refused k → x ≡ refused k)
+      → cond t (refused n) x ≡ refused k
   judged-front-by true n k rest x e f = let q : n ≡ k = cc in ap (λ (m : ℕ). refused m) q
   judged-front-by false n k rest x e f = f e
 
@@ -46,7 +48,8 @@ module _ {A : Type 0} where
   judged-front [] ys a k e = let z : _≡_ {A = ℕ} 0 1 = cc in absurd (omega arith)
   judged-front (c ∷ xs) ys a k e = judged-front-by (c .holds) (c .number) k (verdict xs) (judged (xs ++ ys) a) e (judged-front xs ys a k)
 
-  kept-front-by : (t : Bool) (n k : ℕ) (rest : Outcome Unit) (old x : A) → cond t (refused n) rest ≡ refused k → (rest ≡ refused k → x ≡ old) → cond t old x ≡ old
+  kept-front-by : (t : Bool) (n k : ℕ) (rest : Outcome Unit) (old x : A) → cond t (refused n) rest ≡ refused k → (rest ≡ refused k → x ≡ old)
+      → cond t old x ≡ old
   kept-front-by true n k rest old x e f = refl
   kept-front-by false n k rest old x e f = f e
 

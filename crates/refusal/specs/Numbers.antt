@@ -1,7 +1,28 @@
 -- The number of each refusal: document 01's, and those of the change requests, 14 and 15 of N5, 16 of N7, 17 and 18 of N10, 19 of N11, 20 of N13.
 use Prim.Native.Nat.{ℕ}
 use Rattle.refusal.specs.declared.Refusal.{Refusal}
-use Rattle.refusal.specs.declared.Refusal.the-variants.{UnknownCode, UnknownRule, RuleNotOfCode, InputLength, WordTooShort, MessageSlack, TooManyPairs, OutputLength, WorkTooShort, PairLength, PairOrder, PairPastEnd, Malformed, SumPastLimit, NoFrames, ErasureByte, ByteOutOfRange, NotEighths, NoSuchPlace, GroupSizes}
+use Rattle.refusal.specs.declared.Refusal.the-variants.{
+  UnknownCode,
+  UnknownRule,
+  RuleNotOfCode,
+  InputLength,
+  WordTooShort,
+  MessageSlack,
+  TooManyPairs,
+  OutputLength,
+  WorkTooShort,
+  PairLength,
+  PairOrder,
+  PairPastEnd,
+  Malformed,
+  SumPastLimit,
+  NoFrames,
+  ErasureByte,
+  ByteOutOfRange,
+  NotEighths,
+  NoSuchPlace,
+  GroupSizes,
+}
 
 abbrev pub numberOf : Refusal → ℕ
 numberOf UnknownCode = 1

@@ -2,7 +2,7 @@
 -- 260 points, so near each other that the upper part at one over the lower part at the one before is at most 1.0101, show as much with every rounding in it.
 -- Six factors of 1.0101 make 1.0622. Assumes nothing.
 use mathlib.Core.Path.{_≡_, refl, sym}
-use mathlib.Core.Bool.{Bool, true, false, not, cond, _&&_, true≢false}
+use mathlib.Core.Bool.{Bool, true, false, cond, _&&_, true≢false}
 use mathlib.Core.List.{List, [], _∷_, _++_, map}
 use Prim.Native.Nat.{ℕ, zero, suc, _+_, _*_, _≤_}
 use native.Mathlib.Nat.{zero-mul, mul-one}
@@ -22,6 +22,7 @@ use Rattle.ldpc.proofs.Tests.{and-right, each-at}
 use Rattle.signs.specs.Signs.{NoneNan, empty, more, nearPole, BelowPole}
 use Rattle.signs.proofs.Rounded.{Signed, infinite, finite, Part, part, part-signed}
 use Rattle.signs.proofs.Laws.{between-edges}
+use Rattle.signs.proofs.Products.{neg-kept}
 use Rattle.signs.proofs.Sizes.{Leq, leq, leq-refl, leq-trans, leq-of-le, mul-leq}
 use Rattle.signs.proofs.Tanh.{edge, is-edge, ratio, ratio-part, ratio-leq, half-kept}
 
@@ -176,16 +177,11 @@ factors-low k a (t ∷ ts) h (some l ls) g =
 
 -- ---- the messages of a check's other positions
 
-neg-signed : {s : Bool} {m : Float} → Signed s m → Signed (not s) (neg m)
-unfolding neg
-neg-signed infinite = infinite
-neg-signed finite = finite
-
 negated-most : (m : Float) → isNan m ≡ false → Leq (negatedHalfTanh m) most
 unfolding isNan
 negated-most nan h = absurd (true≢false h)
-negated-most (inf s) h = tanh-most (half-kept (neg-signed infinite))
-negated-most (fin s m e) h = tanh-most (half-kept (neg-signed finite))
+negated-most (inf s) h = tanh-most (half-kept (neg-kept infinite))
+negated-most (fin s m e) h = tanh-most (half-kept (neg-kept finite))
 
 all-low : {ms : List Float} → NoneNan ms → AllLow (map negatedHalfTanh ms)
 all-low empty = none

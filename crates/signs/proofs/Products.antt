@@ -187,7 +187,7 @@ half-law m h = go (message m h)
 pub product-sign : (ms : List Float) → NoneNan ms → Nonzero (product (map halfTanh ms)) → negative (product (map halfTanh ms)) ≡ oddNegatives ms
 product-sign ms ps h = compared (oddNegatives ms) (product (map halfTanh ms)) (outcome halfTanh negative half-law ms ps) h
 
-neg-kept : {s : Bool} {m : Float} → Signed s m → Signed (not s) (neg m)
+pub neg-kept : {s : Bool} {m : Float} → Signed s m → Signed (not s) (neg m)
 unfolding neg
 neg-kept infinite = infinite
 neg-kept finite = finite

@@ -1,5 +1,5 @@
 -- An edge is an entry of a check, and no two edges have the same place by slots. By induction over the checks. Assumes nothing.
-use mathlib.Core.Path.{_≡_, refl, sym, ap, _∙_}
+use mathlib.Core.Path.{_≡_, sym, ap, _∙_}
 use mathlib.Core.Logic.{_≢_}
 use mathlib.Core.List.{List, [], _∷_, _++_}
 use Prim.Native.Nat.{ℕ, zero, suc, _+_, _-_, _*_, _/_, _%_, _<_, _≤_}
@@ -7,7 +7,6 @@ use native.Mathlib.Nat.{suc-mul, mul-le-mul-right, mul-add-mod-self-right, mod-e
 use native.Mathlib.Decide.{decLt}
 use native.Mathlib.Omega.{arith}
 use borrow.Author.Tests.{lt-ltb, le-ltb}
-use lib.Dec.{ltb}
 use lib.ListN.{length, take, length-append}
 use Rattle.tanner.specs.Checks.{Checks}
 use Rattle.tanner.specs.Flat.{joined}
@@ -60,7 +59,8 @@ module _ (m : ℕ) where
     place = omega (arith, place-later r rs k e h, i .place);
   }
 
-  edge-by : (r : List ℕ) (rs : Checks) (k e : ℕ) → e < length (joined (r ∷ rs)) → (e - length r < length (joined rs) → Edge rs m (suc k) (e - length r)) → Dec (e < length r) → Edge (r ∷ rs) m k e
+  edge-by : (r : List ℕ) (rs : Checks) (k e : ℕ) → e < length (joined (r ∷ rs)) → (e - length r < length (joined rs) → Edge rs m (suc k) (e - length r))
+      → Dec (e < length r) → Edge (r ∷ rs) m k e
   edge-by r rs k e h f (yes y) = edge-here r rs k e y
   edge-by r rs k e h f (no n) = edge-later r rs k e (omega arith) (f (omega (arith, edges-later r rs)))
 

@@ -54,7 +54,8 @@ module _ (m d : ℕ) where
   pads-listed (r ∷ rs) c zero h l = rw (lt-ltb (length r) d l) (record { index = 0; inside = omega arith; there = omega arith })
   pads-listed (r ∷ rs) c (suc k) h l =
       let e : suc c + k ≡ c + suc k = omega arith in
-      rw e at (listed-later (length r * m + c) (length (row rs k) * m + (suc c + k)) (padsFrom m d (suc c) rs) (ltb (length r) d) (pads-listed rs (suc c) k (omega arith) l))
+      rw e at (listed-later (length r * m + c) (length (row rs k) * m + (suc c + k)) (padsFrom m d (suc c) rs) (ltb (length r) d)
+      (pads-listed rs (suc c) k (omega arith) l))
 
   pub pad-listed : (cs : Checks) (k : ℕ) → k < length cs → length (row cs k) < d → Listed (padPlaces cs m d) (length (row cs k) * m + k)
   pad-listed cs k h l =

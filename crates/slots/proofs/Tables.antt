@@ -104,7 +104,8 @@ module _ (cs : Checks) (m : ℕ) (starts : List ℕ) (e : starts ≡ offsets cs)
       → ((c : ℕ) → c < m → d ≤ suc (getD starts (suc c) 0 - getD starts c 0)) → Slotted cs m d
   table-slotted d many most least =
       let rows : length cs ≡ m = omega (arith, ap length e, offsets-length cs) in
-      let size : (c : ℕ) → c < m → length (row cs c) ≡ getD starts (suc c) 0 - getD starts c 0 = λ c h. row-size cs 0 c (omega (arith, rows)) ∙ ap (λ (s : List ℕ). getD s (suc c) 0 - getD s c 0) (sym e) in
+      let size : (c : ℕ) → c < m → length (row cs c) ≡ getD starts (suc c) 0 - getD starts c 0 =
+      λ c h. row-size cs 0 c (omega (arith, rows)) ∙ ap (λ (s : List ℕ). getD s (suc c) 0 - getD s c 0) (sym e) in
       record {
         count = rows;
         most = λ c h. omega (arith, size c h, most c h);

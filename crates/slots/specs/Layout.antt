@@ -44,7 +44,8 @@ padsFrom m d c (r ∷ rs) = let later = padsFrom m d (suc c) rs in cond (ltb (le
 abbrev pub padPlaces : Checks → ℕ → ℕ → List ℕ
 padPlaces cs m d = padsFrom m d 0 cs
 
--- ---- parity bits, whose edges lie in the last two slots: the own row's in the slot that starts at `from`, and the next row's, where there is one, in the slot after it
+-- ---- parity bits, whose edges lie in the last two slots: the own row's in the slot that starts at `from`, and the next row's, where there is one, in the slot
+-- after it
 
 unfoldable pub parityPlaces : ℕ → ℕ → ℕ → List ℕ
 parityPlaces from m i = cond (ltb (i + 1) m) ((from + i) ∷ ((from + m + (i + 1)) ∷ [])) ((from + i) ∷ [])

@@ -57,7 +57,8 @@ unfolding times at-row
 times-more x xs r = refl
 
 -- a column that names a row at most once names it once where it holds it
-held-if : (xs : List ℕ) (r : ℕ) (b : Bool) → cond (holds xs r) 1 0 ≡ times xs r → cond b 1 0 + times xs r ≤ 1 → cond (b || holds xs r) 1 0 ≡ cond b 1 0 + times xs r
+held-if : (xs : List ℕ) (r : ℕ) (b : Bool) → cond (holds xs r) 1 0 ≡ times xs r → cond b 1 0 + times xs r ≤ 1
+    → cond (b || holds xs r) 1 0 ≡ cond b 1 0 + times xs r
 held-if xs r true e h = omega arith
 held-if xs r false e h = omega arith
 
@@ -70,7 +71,9 @@ held-once (x ∷ xs) r h = held-if xs r (eqb x r) (held-once xs r (omega arith))
 sum-times : (m : ℕ) (c : List ℕ) → InRows m c → sumFrom (times c) 0 m ≡ length c
 unfolding InRows
 sum-times m [] low = sum-zero (times []) times-none m 0
-sum-times m (x ∷ xs) low = sum-add (at-row x) (times xs) (times (x ∷ xs)) (times-more x xs) m 0 ∙ omega (arith, one-row x m 0 (omega arith) (omega (arith, low .0)), sum-times m xs (low .1))
+sum-times m (x ∷ xs) low =
+    sum-add (at-row x) (times xs) (times (x ∷ xs)) (times-more x xs) m 0
+    ∙ omega (arith, one-row x m 0 (omega arith) (omega (arith, low .0)), sum-times m xs (low .1))
 
 -- ---- what all columns add
 -- how many of the columns hold row r

@@ -1,11 +1,30 @@
--- The rows of each code's message columns, which are what the construction gives, with no pick relaxed: its quick form, which agrees with the definition, is computed here.
+-- The rows of each code's message columns, which are what the construction gives, with no pick relaxed: its quick form, which agrees with the definition, is
+-- computed here.
 use mathlib.Core.Path.{_≡_, refl, sym, ap, _∙_}
 use mathlib.Core.List.{List, [], _∷_, reverse}
 use Prim.Native.Nat.{ℕ}
 use native.Mathlib.Omega.{arith}
 use Rattle.xorshift.specs.Draw.{draw, xor, mixed}
 use Rattle.construction.specs.Columns.{Made, holds, settled, sorted, insert, upFrom, firstOutside, finished, made, rowsOf, laidBefore}
-use Rattle.construction.specs.Quick.{marked, markedIf, markedBy, marksOf, lessOf, met, scan, foundIn, quickSearch, quickPick, loaded, quickOnePick, quickPicks, quickFinished, quickColumn, quickColumns, quick}
+use Rattle.construction.specs.Quick.{
+  marked,
+  markedIf,
+  markedBy,
+  marksOf,
+  lessOf,
+  met,
+  scan,
+  foundIn,
+  quickSearch,
+  quickPick,
+  loaded,
+  quickOnePick,
+  quickPicks,
+  quickFinished,
+  quickColumn,
+  quickColumns,
+  quick,
+}
 use Rattle.construction.specs.Codes.{n512r12, n576r23, n512r34, messageRows, relaxedPicks}
 use Rattle.construction.proofs.Agree.{agree}
 use Rattle.slots.specs.Layout.{threes}
@@ -45,7 +64,8 @@ rows0 =
     161 ∷ 195 ∷ 184 ∷ 185 ∷ 197 ∷ 79 ∷ 200 ∷ 201 ∷ 81 ∷ 84 ∷ 208 ∷ 85 ∷ 86 ∷ 89 ∷ []
 
 made0 : made 256 256 0x4c44504335313200 ≡ record { state = 0xac0ce9660e6b49ae; columns = reverse (threes rows0); relaxed = 0 }
-unfolding draw xor mixed holds settled sorted insert upFrom firstOutside marked markedIf markedBy marksOf lessOf met scan foundIn quickSearch quickPick loaded quickFinished finished quickOnePick quickPicks quickColumn quickColumns quick rows0 threes
+unfolding draw xor mixed holds settled sorted insert upFrom firstOutside marked markedIf markedBy marksOf lessOf met scan foundIn quickSearch quickPick loaded
+    quickFinished finished quickOnePick quickPicks quickColumn quickColumns quick rows0 threes
 made0 = sym (agree 256 256 0x4c44504335313200 (omega arith)) ∙ refl
 
 pub made-right0 : made 256 256 0x4c44504335313200 .columns ≡ reverse (threes rows0)
@@ -108,7 +128,8 @@ rows1 =
     ∷ 185 ∷ 4 ∷ 187 ∷ 190 ∷ 2 ∷ 3 ∷ 28 ∷ 30 ∷ 31 ∷ 36 ∷ 32 ∷ 37 ∷ 39 ∷ 40 ∷ 41 ∷ 42 ∷ 43 ∷ 44 ∷ 48 ∷ []
 
 made1 : made 384 192 0x4c44504335313201 ≡ record { state = 0x6f57f175536488dd; columns = reverse (threes rows1); relaxed = 0 }
-unfolding draw xor mixed holds settled sorted insert upFrom firstOutside marked markedIf markedBy marksOf lessOf met scan foundIn quickSearch quickPick loaded quickFinished finished quickOnePick quickPicks quickColumn quickColumns quick rows1 threes
+unfolding draw xor mixed holds settled sorted insert upFrom firstOutside marked markedIf markedBy marksOf lessOf met scan foundIn quickSearch quickPick loaded
+    quickFinished finished quickOnePick quickPicks quickColumn quickColumns quick rows1 threes
 made1 = sym (agree 384 192 0x4c44504335313201 (omega arith)) ∙ refl
 
 pub made-right1 : made 384 192 0x4c44504335313201 .columns ≡ reverse (threes rows1)
@@ -169,7 +190,8 @@ rows2 =
     44 ∷ 70 ∷ 76 ∷ 45 ∷ 77 ∷ 78 ∷ 79 ∷ 80 ∷ 84 ∷ []
 
 made2 : made 384 128 0x4c44504335313202 ≡ record { state = 0x7ea06dcb05136954; columns = reverse (threes rows2); relaxed = 0 }
-unfolding draw xor mixed holds settled sorted insert upFrom firstOutside marked markedIf markedBy marksOf lessOf met scan foundIn quickSearch quickPick loaded quickFinished finished quickOnePick quickPicks quickColumn quickColumns quick rows2 threes
+unfolding draw xor mixed holds settled sorted insert upFrom firstOutside marked markedIf markedBy marksOf lessOf met scan foundIn quickSearch quickPick loaded
+    quickFinished finished quickOnePick quickPicks quickColumn quickColumns quick rows2 threes
 made2 = sym (agree 384 128 0x4c44504335313202 (omega arith)) ∙ refl
 
 pub made-right2 : made 384 128 0x4c44504335313202 .columns ≡ reverse (threes rows2)

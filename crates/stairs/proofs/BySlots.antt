@@ -5,16 +5,14 @@ use mathlib.Core.Bool.{Bool, true, false, cond}
 use mathlib.Core.List.{List, [], _∷_, _++_, map, map-append}
 use Prim.Native.Nat.{ℕ, zero, suc, _+_, _-_, _*_, _<_, _≤_}
 use native.Mathlib.Nat.{add-zero, add-suc, zero-add, suc-mul}
-use native.Mathlib.Decide.{decLt}
-use native.Mathlib.Numerals.{add-one}
 use native.Mathlib.Omega.{arith}
 use borrow.Author.Tests.{eq-eqb, ne-eqb, lt-ltb, le-ltb}
 use lib.Dec.{eqb, ltb}
-use lib.ListN.{length, getD, take, drop, length-append, length-drop}
+use lib.ListN.{length, getD, drop, length-append, length-drop}
 use lib.Seq.{length-take-le}
 use Rattle.tanner.specs.Checks.{Checks}
 use Rattle.tanner.specs.Flat.{Below, joined, places}
-use Rattle.tanner.proofs.Steps.{part-below}
+use Rattle.tanner.proofs.Below.{below-part}
 use Rattle.tanner.proofs.Places.{places-append}
 use Rattle.slots.specs.Layout.{row, Slotted, slotFrom, slotEdges, padsFrom, padPlaces, parityPlaces}
 use Rattle.staircase.specs.Staircase.{parityEntries}
@@ -43,7 +41,8 @@ module _ (m p : ℕ) where
   unfolding slotFrom
   here-at r rs c e h = rw (lt-ltb e (length r) h)
 
-  edges-later : (r : List ℕ) (rs : Checks) (c e : ℕ) (xs : List ℕ) → map (slotFrom m c (r ∷ rs)) (places p (length r + e) xs) ≡ map (slotFrom m (suc c) rs) (places p e xs)
+  edges-later : (r : List ℕ) (rs : Checks) (c e : ℕ) (xs : List ℕ)
+      → map (slotFrom m c (r ∷ rs)) (places p (length r + e) xs) ≡ map (slotFrom m (suc c) rs) (places p e xs)
   unfolding places
   edges-later r rs c e [] = refl
   edges-later r rs c e (x ∷ xs) = by (eqb x p) (rw add-suc at (edges-later r rs c (suc e) xs))
@@ -54,13 +53,15 @@ module _ (m p : ℕ) where
       by true q = rw (later-at r rs c e, q)
       by false q = q
 
-  edges-here : (r : List ℕ) (rs : Checks) (c e : ℕ) (xs : List ℕ) → e + length xs ≤ length r → map (slotFrom m c (r ∷ rs)) (places p e xs) ≡ map (λ j. j * m + c) (places p e xs)
+  edges-here : (r : List ℕ) (rs : Checks) (c e : ℕ) (xs : List ℕ) → e + length xs ≤ length r
+      → map (slotFrom m c (r ∷ rs)) (places p e xs) ≡ map (λ j. j * m + c) (places p e xs)
   unfolding places
   edges-here r rs c e [] h = refl
   edges-here r rs c e (x ∷ xs) h = by (eqb x p) (edges-here r rs c (suc e) xs (omega arith))
     where
       by : (t : Bool) → map (slotFrom m c (r ∷ rs)) (places p (suc e) xs) ≡ map (λ j. j * m + c) (places p (suc e) xs)
-          → map (slotFrom m c (r ∷ rs)) (cond t (e ∷ places p (suc e) xs) (places p (suc e) xs)) ≡ map (λ j. j * m + c) (cond t (e ∷ places p (suc e) xs) (places p (suc e) xs))
+          → map (slotFrom m c (r ∷ rs)) (cond t (e ∷ places p (suc e) xs) (places p (suc e) xs)) ≡ map (λ j. j * m + c)
+          (cond t (e ∷ places p (suc e) xs) (places p (suc e) xs))
       by true q = rw (here-at r rs c e (omega arith), q)
       by false q = q
 
@@ -140,7 +141,7 @@ module _ (k width m : ℕ) (table : List ℕ) (size : length table ≡ m * width
     unfolding tapsAt
     taps-low c =
         let e : c * width + width - c * width ≡ width = omega arith in
-        rw e at (part-below k table (c * width) (c * width + width) low)
+        rw e at (below-part k table (c * width) (c * width + width) low)
 
     entries : (c : ℕ) → c < m → places (k + i) 0 (stairRow k width table c) ≡ places (k + i) width (parityEntries k c)
     entries c h =

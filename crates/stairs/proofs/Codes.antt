@@ -1,12 +1,12 @@
--- Each code's table of message positions is what the calls ask: as long as M rows of its width, every entry a message position. By computation. Assumes nothing.
+-- Each code's table of message positions is what the calls ask: as long as M rows of its width, every entry a message position. By computation. Assumes
+-- nothing.
 use mathlib.Core.Path.{_≡_, refl}
 use mathlib.Core.Bool.{Bool, true, false, _&&_}
 use mathlib.Core.List.{List, [], _∷_}
-use Prim.Native.Nat.{ℕ, zero, suc, _<_, _≤_}
+use Prim.Native.Nat.{ℕ, zero, suc, _≤_}
 use native.Mathlib.Omega.{arith}
 use borrow.Author.Tests.{ltb-true}
 use lib.Dec.{ltb}
-use lib.ListN.{length, getD}
 use Rattle.tanner.specs.Flat.{Below}
 use Rattle.staircase.proofs.N512R12.{taps0}
 use Rattle.staircase.proofs.N576R23.{taps1}

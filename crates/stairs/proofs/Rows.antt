@@ -1,4 +1,5 @@
--- A turn of each loop over a staircase code's rows: the row's place in the table, the XOR of the whole row from its parts, and what is left to do. Assumes nothing.
+-- A turn of each loop over a staircase code's rows: the row's place in the table, the XOR of the whole row from its parts, and what is left to do. Assumes
+-- nothing.
 use mathlib.Core.Path.{_≡_, refl, sym, ap, _∙_}
 use mathlib.Core.List.{List, [], _∷_, _++_}
 use Prim.Native.Nat.{ℕ, zero, suc, _+_, _-_, _*_, _%_, _<_, _≤_}
@@ -6,11 +7,12 @@ use native.Mathlib.Nat.{add-zero, suc-mul, mul-le-mul-right, add-sub-cancel-left
 use native.Mathlib.Numerals.{add-one}
 use native.Mathlib.Omega.{arith}
 use lib.Bits.{bitAnd, bitXor, and-mask, xor-zero-r}
-use lib.ListN.{length, getD, take, drop, set, length-set}
+use lib.ListN.{length, getD, take, drop, set}
 use lib.Seq.{getD-set-same, getD-set-other}
-use Rattle.tanner.specs.Checks.{Checks, xorFrom, nonzero, countMasked}
+use Rattle.tanner.specs.Checks.{xorFrom, nonzero, countMasked}
 use Rattle.tanner.specs.Flat.{Below}
-use Rattle.tanner.proofs.Steps.{part-below}
+use Rattle.tanner.proofs.Below.{below-part, below-less, below-first, below-rest}
+use Rattle.tanner.proofs.Count.{nonzero-bit}
 use Rattle.staircase.specs.Staircase.{parityEntries}
 use Rattle.staircase.specs.Shape.{tapsAt, stairRow, stairRows, stairs}
 use Rattle.stairs.specs.Stairs.{bitBefore, filled}
@@ -30,12 +32,12 @@ unfolding tapsAt
 row-part width i a table e = rw (add-sub-cancel-left a width, e)
 
 pub row-low : (k n width a : ℕ) (table : List ℕ) → k ≤ n → Below k table → Below n (take (a + width - a) (drop a table))
-unfolding Below
-row-low k n width a table h low j l = omega (arith, part-below k table a (a + width) low j l)
+row-low k n width a table h low = below-less k n _ h (below-part k table a (a + width) low)
 
 -- ---- the rows that are left
 
-pub rows-more : (k width m : ℕ) (table : List ℕ) (i : ℕ) → i < m → stairRows k width table i (m - i) ≡ stairRow k width table i ∷ stairRows k width table (i + 1) (m - (i + 1))
+pub rows-more : (k width m : ℕ) (table : List ℕ) (i : ℕ) → i < m
+    → stairRows k width table i (m - i) ≡ stairRow k width table i ∷ stairRows k width table (i + 1) (m - (i + 1))
 unfolding stairRows
 rows-more k width m table i h =
     let e : m - i ≡ suc (m - (i + 1)) = omega arith in
@@ -65,7 +67,8 @@ entries-xor k zero x bytes = rw (add-zero k, xor-zero-r (bitXor x (getD bytes k 
 entries-xor k (suc i) x bytes = refl
 
 -- its message positions, then its own parity bit, then the one before
-pub row-xor : (k width : ℕ) (table bytes : List ℕ) (i a x before : ℕ) → a ≡ i * width → x ≡ xorFrom 0 (take (a + width - a) (drop a table)) bytes → before ≡ bitBefore k i bytes
+pub row-xor : (k width : ℕ) (table bytes : List ℕ) (i a x before : ℕ) → a ≡ i * width → x ≡ xorFrom 0 (take (a + width - a) (drop a table)) bytes
+    → before ≡ bitBefore k i bytes
     → bitXor (bitXor x (getD bytes (k + i) 0)) before ≡ xorFrom 0 (stairRow k width table i) bytes
 row-xor k width table bytes i a x before e f b =
     let whole : x ≡ xorFrom 0 (tapsAt width table i) bytes = f ∙ ap (λ (ps : List ℕ). xorFrom 0 ps bytes) (row-part width i a table e) in
@@ -87,29 +90,25 @@ before-set k i v w h = rw add-one (sym (getD-set-same w (k + i) v 0 h))
 -- ---- a parity bit filled in
 
 xor-other : (k at v x : ℕ) (ps bytes : List ℕ) → k ≤ at → Below k ps → xorFrom x ps (set bytes at v) ≡ xorFrom x ps bytes
-unfolding xorFrom Below
+unfolding xorFrom
 xor-other k at v x [] bytes h low = refl
 xor-other k at v x (p ∷ ps) bytes h low =
-    let first : p < k = low 0 (omega arith) in
+    let first : p < k = below-first k p ps low in
     let same : getD (set bytes at v) p 0 ≡ getD bytes p 0 = getD-set-other bytes at p v 0 (λ e. omega arith) in
-    rw same (xor-other k at v (bitXor x (getD bytes p 0)) ps bytes h (λ j l. low (suc j) (omega arith)))
+    rw same (xor-other k at v (bitXor x (getD bytes p 0)) ps bytes h (below-rest k p ps low))
 
 before-other : (k i v : ℕ) (bytes : List ℕ) → bitBefore k i (set bytes (k + i) v) ≡ bitBefore k i bytes
 unfolding bitBefore
 before-other k zero v bytes = refl
 before-other k (suc i) v bytes = getD-set-other bytes (k + suc i) (k + i) v 0 (λ e. omega arith)
 
-nonzero-bit : (x : ℕ) → x < 2 → nonzero x ≡ x
-nonzero-bit zero h = refl
-nonzero-bit (suc zero) h = refl
-nonzero-bit (suc (suc x)) h = absurd (omega arith)
-
 nonzero-low : (y : ℕ) → nonzero (bitAnd y 1) ≡ bitAnd y 1
 nonzero-low y =
     let e : bitAnd y 1 ≡ y % 2 = and-mask y 1 in
     rw e (nonzero-bit (y % 2) (omega arith))
 
-module _ (k width : ℕ) (table w : List ℕ) (i a x before : ℕ) (e : a ≡ i * width) (f : x ≡ xorFrom 0 (take (a + width - a) (drop a table)) w) (b : before ≡ bitBefore k i w)
+module _ (k width : ℕ) (table w : List ℕ) (i a x before : ℕ) (e : a ≡ i * width) (f : x ≡ xorFrom 0 (take (a + width - a) (drop a table)) w)
+    (b : before ≡ bitBefore k i w)
     (low : Below k table) (inside : k + i < length w) where
   -- what is stored is the count of the row alone, with the bit at 0
   stored-bit : bitAnd (bitXor x before) 1 ≡ countMasked 1 (stairRow k width table i ∷ []) (set w (k + i) 0)
@@ -117,9 +116,10 @@ module _ (k width : ℕ) (table w : List ℕ) (i a x before : ℕ) (e : a ≡ i 
   stored-bit =
       let v = set w (k + i) 0 in
       let ps = take (a + width - a) (drop a table) in
-      let taps : x ≡ xorFrom 0 ps v = f ∙ sym (xor-other k (k + i) 0 0 ps w (omega arith) (part-below k table a (a + width) low)) in
+      let taps : x ≡ xorFrom 0 ps v = f ∙ sym (xor-other k (k + i) 0 0 ps w (omega arith) (below-part k table a (a + width) low)) in
       let own : getD v (k + i) 0 ≡ 0 = getD-set-same w (k + i) 0 0 inside in
-      let row : bitXor (bitXor x (getD v (k + i) 0)) before ≡ xorFrom 0 (stairRow k width table i) v = row-xor k width table v i a x before e taps (b ∙ sym (before-other k i 0 w)) in
+      let row : bitXor (bitXor x (getD v (k + i) 0)) before ≡ xorFrom 0 (stairRow k width table i) v =
+      row-xor k width table v i a x before e taps (b ∙ sym (before-other k i 0 w)) in
       let less : bitXor x before ≡ xorFrom 0 (stairRow k width table i) v = (rw (own, xor-zero-r x) at row) in
       rw less (omega (arith, nonzero-low (xorFrom 0 (stairRow k width table i) v)))
 

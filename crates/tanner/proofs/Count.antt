@@ -8,6 +8,7 @@ use lib.ListN.{length, getD, take, length-map, List·getD-map}
 use lib.Seq.{getD-take}
 use Rattle.tanner.specs.Checks.{Word, Checks, parity, count, lowBits, xorFrom, nonzero, countBytes, countMasked}
 use Rattle.tanner.specs.Flat.{Below}
+use Rattle.tanner.proofs.Below.{below-at}
 
 -- ---- parity and count
 
@@ -48,7 +49,7 @@ xor-parity x (p ∷ ps) bytes =
     let q = parity ps (lowBits bytes) in
     rw (low-at bytes p, odd-outside x b q) (xor-parity (bitXor x b) ps bytes ∙ odd-alike (bitXor x b) (x + b) q (xor-low x b))
 
-nonzero-bit : (x : ℕ) → x < 2 → nonzero x ≡ x
+pub nonzero-bit : (x : ℕ) → x < 2 → nonzero x ≡ x
 nonzero-bit zero h = refl
 nonzero-bit (suc zero) h = refl
 nonzero-bit (suc (suc x)) h = absurd (omega arith)
@@ -67,12 +68,6 @@ low-count [] bytes = refl
 low-count (c ∷ cs) bytes = rw (low-check c bytes, low-count cs bytes)
 
 -- ---- whole bytes
-
-below-at : (n : ℕ) (bytes : List ℕ) (p : ℕ) → Below (suc n) bytes → getD bytes p 0 < suc n
-unfolding Below
-below-at n [] p h = omega arith
-below-at n (b ∷ bytes) zero h = h 0 (omega arith)
-below-at n (b ∷ bytes) (suc p) h = below-at n bytes p (λ k l. h (suc k) (omega arith))
 
 xor-below : (k n : ℕ) → 2 ^ k ≡ suc n → (x : ℕ) (ps bytes : List ℕ) → x < 2 ^ k → Below (suc n) bytes → xorFrom x ps bytes < 2 ^ k
 unfolding xorFrom

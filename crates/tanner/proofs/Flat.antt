@@ -5,12 +5,13 @@ use Prim.Native.Nat.{ℕ, zero, suc, _+_, _-_, _<_, _≤_}
 use native.Mathlib.Nat.{le-of-suc-le-suc, add-zero, zero-add, add-suc, suc-add}
 use native.Mathlib.Numerals.{add-one}
 use native.Mathlib.Omega.{arith}
-use lib.ListN.{length, getD, take, drop, length-append, List·getD-append}
-use lib.Seq.{take-at, drop-at, getD-append-add}
+use lib.ListN.{length, getD, take, drop, length-append}
+use lib.Seq.{take-at, drop-at}
 use Rattle.tanner.specs.Checks.{Checks}
 use Rattle.tanner.specs.Flat.{joined, ends, offsets, cut, rowsFrom, rowsOf, Below, Within, FlatChecks, places, edgesFrom, bitEdges}
 use Rattle.tanner.proofs.Count.{AllBelow, none, more}
 use Rattle.tanner.proofs.Places.{places-stand}
+use Rattle.tanner.proofs.Below.{below-none, below-append, below-left, below-right}
 
 -- ---- what lies in the arrays is the check list
 
@@ -57,14 +58,6 @@ flat-checks rs n few low = record {
 
 -- each check covers positions below n where the flat list holds such alone
 
-below-left : (n : ℕ) (xs ys : List ℕ) → Below n (xs ++ ys) → Below n xs
-unfolding Below
-below-left n xs ys low k h = rw List·getD-append at (low k (simp length-append (omega arith)))
-
-below-right : (n : ℕ) (xs ys : List ℕ) → Below n (xs ++ ys) → Below n ys
-unfolding Below
-below-right n xs ys low k h = rw getD-append-add at (low (length xs + k) (simp length-append (omega arith)))
-
 pub all-below : (n : ℕ) (rs : Checks) → Below n (joined rs) → AllBelow n rs
 unfolding joined
 all-below n [] low = none
@@ -104,16 +97,6 @@ pub bit-edges-at : (n b : ℕ) (rs : Checks) → b < n → let es = bitEdges n r
 bit-edges-at n b rs h = row-at (bitEdges n rs) b (omega (arith, edges-length 0 n (joined rs))) ∙ rw zero-add at (edges-at 0 n b (joined rs) h)
 
 -- they are edges
-
-below-none : (n : ℕ) → Below n []
-unfolding Below
-below-none n k h = absurd (omega arith)
-
-below-append : (n : ℕ) (xs ys : List ℕ) → Below n xs → Below n ys → Below n (xs ++ ys)
-unfolding Below
-below-append n [] ys f g k h = g k h
-below-append n (x ∷ xs) ys f g zero h = f 0 (omega arith)
-below-append n (x ∷ xs) ys f g (suc k) h = below-append n xs ys (λ j l. f (suc j) (omega arith)) g k (omega arith)
 
 places-low : (p : ℕ) (flat : List ℕ) → Below (length flat) (places p 0 flat)
 unfolding Below

@@ -1,3 +1,4 @@
+pub mod Below
 pub mod Count
 pub mod Flat
 pub mod Steps

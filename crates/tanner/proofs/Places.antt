@@ -21,7 +21,8 @@ places-append p e (x ∷ xs) ys =
     by (eqb x p) ih
   where
     by : (t : Bool) → places p (suc e) (xs ++ ys) ≡ places p (suc e) xs ++ places p (e + suc (length xs)) ys
-        → cond t (e ∷ places p (suc e) (xs ++ ys)) (places p (suc e) (xs ++ ys)) ≡ cond t (e ∷ places p (suc e) xs) (places p (suc e) xs) ++ places p (e + suc (length xs)) ys
+        → cond t (e ∷ places p (suc e) (xs ++ ys)) (places p (suc e) (xs ++ ys)) ≡ cond t (e ∷ places p (suc e) xs) (places p (suc e) xs)
+        ++ places p (e + suc (length xs)) ys
     by true h = ap (λ (l : List ℕ). e ∷ l) h
     by false h = h
 

@@ -7,11 +7,12 @@ use native.Mathlib.Numerals.{add-one}
 use native.Mathlib.Omega.{arith}
 use lib.Bits.{bitAnd, bitXor}
 use lib.Dec.{eqb}
-use lib.ListN.{length, getD, take, drop, drop-of-length-le, length-take, length-drop}
-use lib.Seq.{drop-cons, getD-take, getD-drop, take-all}
+use lib.ListN.{length, getD, take, drop, drop-of-length-le}
+use lib.Seq.{drop-cons, take-all}
 use borrow.Author.Tests.{eq-eqb, ne-eqb}
 use Rattle.tanner.specs.Checks.{Checks, First, check, none, xorFrom, nonzero, countMasked, measured, firstBy}
 use Rattle.tanner.specs.Flat.{cut, rowsFrom, Below}
+pub use Rattle.tanner.proofs.Below.{below-part as part-below}
 
 pub xor-more : (ps bytes : List ℕ) (x i z : ℕ) → i < length ps → xorFrom x (drop i ps) bytes ≡ z
     → xorFrom (bitXor x (getD bytes (getD ps i 0) 0)) (drop (i + 1) ps) bytes ≡ z
@@ -31,16 +32,9 @@ pub rows-done : (s f : List ℕ) (c : ℕ) → length s ≤ c + 1 → rowsFrom s
 unfolding rowsFrom cut
 rows-done s f c h = rw (drop-of-length-le s h)
 
--- what holds of each entry holds of each entry of a part
-pub part-below : (n : ℕ) (f : List ℕ) (a b : ℕ) → Below n f → Below n (take (b - a) (drop a f))
-unfolding Below
-part-below n f a b low k h =
-    let p : k < b - a = omega (arith, simp length-take at h) in
-    let q : a + k < length f = omega (arith, simp (length-take, length-drop) at h) in
-    rw (getD-take, getD-drop) (low (a + k) q)
-
 -- one turn of a count: the next of the checks that are left
-module _ (mask : ℕ) (bytes r : List ℕ) (rest rs : Checks) (u z x : ℕ) (h : rest ≡ r ∷ rs) (e : x ≡ xorFrom 0 r bytes) (i : u + countMasked mask rest bytes ≡ z) where
+module _ (mask : ℕ) (bytes r : List ℕ) (rest rs : Checks) (u z x : ℕ) (h : rest ≡ r ∷ rs) (e : x ≡ xorFrom 0 r bytes)
+    (i : u + countMasked mask rest bytes ≡ z) where
   counted : u + (nonzero (bitAnd x mask) + countMasked mask rs bytes) ≡ z
   unfolding countMasked
   counted = rw e (rw h at i)
@@ -71,7 +65,8 @@ front-xor x r n l bytes e given = rw (front-whole n l e) at given
 
 -- ---- one turn of the scan for the first check
 
-module _ (mask : ℕ) (bytes r : List ℕ) (rest rs : Checks) (c x : ℕ) (z : First) (h : rest ≡ r ∷ rs) (e : x ≡ xorFrom 0 r bytes) (i : firstBy (measured mask bytes) c rest ≡ z) where
+module _ (mask : ℕ) (bytes r : List ℕ) (rest rs : Checks) (c x : ℕ) (z : First) (h : rest ≡ r ∷ rs) (e : x ≡ xorFrom 0 r bytes)
+    (i : firstBy (measured mask bytes) c rest ≡ z) where
   scanned : cond (eqb (nonzero (bitAnd x mask)) 0) (firstBy (measured mask bytes) (suc c) rs) (check c) ≡ z
   unfolding firstBy
   scanned = rw e (rw h at i)

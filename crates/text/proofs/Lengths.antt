@@ -8,7 +8,8 @@ use lib.Dec.{ltb, lit≤}
 use lib.ListN.{length, length-append}
 use Rattle.text.specs.Text.{leading, decimal, hexFrom, hex, refusedWord, field, refusalLine}
 
-pub decimal-length : (n : ℕ) → length (decimal n) ≡ length (leading 10000 n) + (length (leading 1000 n) + (length (leading 100 n) + (length (leading 10 n) + 1)))
+pub decimal-length : (n : ℕ)
+    → length (decimal n) ≡ length (leading 10000 n) + (length (leading 1000 n) + (length (leading 100 n) + (length (leading 10 n) + 1)))
 unfolding decimal
 decimal-length n = simp length-append
 

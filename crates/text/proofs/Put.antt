@@ -1,7 +1,7 @@
 -- Texts put into a buffer one after the other are one text: by splitting the buffer at the places. Assumes nothing.
 use mathlib.Core.Path.{_≡_, refl, sym, ap, _∙_}
 use mathlib.Core.List.{List, [], _∷_, _++_, append-assoc}
-use Prim.Native.Nat.{ℕ, _+_, _-_, _≤_, _<_}
+use Prim.Native.Nat.{ℕ, _+_, _≤_, _<_}
 use native.Mathlib.Nat.{add-zero, add-assoc}
 use native.Mathlib.Numerals.{add-one}
 use native.Mathlib.Omega.{arith}
@@ -31,15 +31,26 @@ module _ (out : List ℕ) (at : ℕ) (s : List ℕ) (room : at + length s ≤ le
   pub put-put : (t : List ℕ) → put (put out at s) (at + length s) t ≡ put out at (s ++ t)
   unfolding put
   put-put t =
-      let split : take at out ++ (s ++ drop (at + length s) out) ≡ (take at out ++ s) ++ drop (at + length s) out = sym (append-assoc (take at out) s (drop (at + length s) out)) in
+      let split : take at out ++ (s ++ drop (at + length s) out) ≡ (take at out ++ s) ++ drop (at + length s) out =
+      sym (append-assoc (take at out) s (drop (at + length s) out)) in
       let more : drop (at + length s + length t) ((take at out ++ s) ++ drop (at + length s) out) ≡ drop (at + length s + length t) out
       = drop-past (take at out ++ s) (drop (at + length s) out) (at + length s) (length t) front-length ∙ drop-drop (length t) (at + length s) out in
-      rw (split, take-at (take at out ++ s) (drop (at + length s) out) (at + length s) front-length, more, length-append s t, ← add-assoc at (length s) (length t), append-assoc, append-assoc)
+      rw (
+        split,
+        take-at (take at out ++ s) (drop (at + length s) out) (at + length s) front-length,
+        more,
+        length-append s t,
+        ← add-assoc at (length s)
+            (length t),
+        append-assoc,
+        append-assoc,
+      )
 
 -- ---- writers, one after the other
 
 module _ {out : List ℕ} {at : ℕ} {s : List ℕ} {after : List ℕ} {next : ℕ} where
-  pub then : {t : List ℕ} {last : List ℕ} {end : ℕ} → Written out at s after next → at + length s ≤ length out → Written after next t last end → Written out at (s ++ t) last end
+  pub then : {t : List ℕ} {last : List ℕ} {end : ℕ} → Written out at s after next → at + length s ≤ length out → Written after next t last end
+      → Written out at (s ++ t) last end
   then {t} {last} {end} w room v = record { bytes = bytes; end = ends }
     where
       bytes : last ≡ put out at (s ++ t)
@@ -67,7 +78,8 @@ module _ (out : List ℕ) (at : ℕ) (text : List ℕ) where
   pub left-all : Left out at text out at text
   left-all = record { bytes = refl; end = refl; size = refl }
 
-  pub left-less : (now : List ℕ) (next : ℕ) (s rest after : List ℕ) (place : ℕ) → at + length text ≤ length out → Left out at text now next (s ++ rest) → Written now next s after place → Left out at text after place rest
+  pub left-less : (now : List ℕ) (next : ℕ) (s rest after : List ℕ) (place : ℕ) → at + length text ≤ length out → Left out at text now next (s ++ rest)
+      → Written now next s after place → Left out at text after place rest
   left-less now next s rest after place room l w = record { bytes = bytes; end = ends; size = size }
     where
       lengths : next + (length s + length rest) ≡ at + length text
@@ -90,7 +102,8 @@ module _ (out : List ℕ) (at : ℕ) (text : List ℕ) where
 
 -- ---- the room that is left after a writer
 
-pub room-left : (out : List ℕ) (at : ℕ) (s after : List ℕ) (next rest : ℕ) → Written out at s after next → at + (length s + rest) ≤ length out → next + rest ≤ length after
+pub room-left : (out : List ℕ) (at : ℕ) (s after : List ℕ) (next rest : ℕ) → Written out at s after next → at + (length s + rest) ≤ length out
+    → next + rest ≤ length after
 room-left out at s after next rest w h =
     let size : length after ≡ length out = rw (w .bytes) (put-length out at s (omega arith)) in
     omega (arith, size, w .end)

@@ -24,7 +24,9 @@ bitAt bits i = getD bits i 0 % 2
 
 -- "bits packed most significant first": the byte of eight bits from i on
 unfoldable pub byteAt : List ℕ → ℕ → ℕ
-byteAt bits i = 128 * bitAt bits i + 64 * bitAt bits (i + 1) + 32 * bitAt bits (i + 2) + 16 * bitAt bits (i + 3) + 8 * bitAt bits (i + 4) + 4 * bitAt bits (i + 5) + 2 * bitAt bits (i + 6) + bitAt bits (i + 7)
+byteAt bits i =
+    128 * bitAt bits i + 64 * bitAt bits (i + 1) + 32 * bitAt bits (i + 2) + 16 * bitAt bits (i + 3)
+    + 8 * bitAt bits (i + 4) + 4 * bitAt bits (i + 5) + 2 * bitAt bits (i + 6) + bitAt bits (i + 7)
 
 -- "lower-case hexadecimal": 0 to 9, then a to f
 unfoldable pub hexDigit : ℕ → ℕ

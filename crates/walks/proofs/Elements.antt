@@ -108,7 +108,8 @@ module _ (P : Plain) (h : Handle) (ys : List (P .row .Denot)) (j : ℕ) (d : P .
       sets k (bin k (var k (ap (λ x. x .5) e)) (lit k small) (record { fits = fits })) (passed (ap (λ x. x .10) e))
       (fitting (vint w64 bytes) (ap (λ x. x .1) e) (tt, record { fits = fits })) $
       sets-as k (bin k (pointer-of s (ap (λ x. x .0) e) (ap (λ x. x .6) e) k) (var k (ap (λ x. x .7) e)) tt)
-      (ap (vptr (h .block)) (sym (place-is (mem R .size) (h .offset) j))) (passed (ap (λ x. x .11) e)) (fitting (vptr (h .block) at) (ap (λ x. x .2) e) (tt, tt)) $
+      (ap (vptr (h .block)) (sym (place-is (mem R .size) (h .offset) j))) (passed (ap (λ x. x .11) e))
+      (fitting (vptr (h .block) at) (ap (λ x. x .2) e) (tt, tt)) $
       -- a copy of what the slice owns is opened
       move k (1 ∷ []) $ shared-copied k tt R h (length ys) ys $ move k (1 ∷ []) $ fsplit k $ drop k $ fsplit k $ drop k $ move k (0 ∷ 2 ∷ []) $
       looks-slice k tt R (Is R) (shows 𝓤 H A R) vals (P .tells) (P .copies 𝓤 H A W) ys (h .block) (h .offset) (λ q′.

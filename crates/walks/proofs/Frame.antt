@@ -383,8 +383,10 @@ module _ {M : Type 1} {𝓤 : URA M} {H : Heap 𝓤} {A : Atoms 𝓤} {K : Type 
       frees-all t Γ E cs (prop (Kf v)) z s)
 
   -- `if c { return i; }` where c holds, and where it does not
-  pub returns-early : K → {Γ : List (Item 𝓤)} {E : List Spot} {cs : List Cell} {C : Calls 𝓤 H} {Λ : Loops 𝓤 H} {Kf : Val → SProp 𝓤} {i : ℕ} {v : Val} {c : Operand} {rest : Body}
-      → Opd K W (‵ (frame E cs) ∷ Γ) E c (vbool true) → getD cs i away ≡ full v → T (hasTy (typeOf E 0) v) × WT v → T (present (getD cs 0 away)) → T (all-present E (set cs 0 (full v)))
+  pub returns-early : K
+      → {Γ : List (Item 𝓤)} {E : List Spot} {cs : List Cell} {C : Calls 𝓤 H} {Λ : Loops 𝓤 H} {Kf : Val → SProp 𝓤} {i : ℕ} {v : Val} {c : Operand} {rest : Body}
+      → Opd K W (‵ (frame E cs) ∷ Γ) E c (vbool true) → getD cs i away ≡ full v → T (hasTy (typeOf E 0) v) × WT v → T (present (getD cs 0 away))
+      → T (all-present E (set cs 0 (full v)))
       → Step K W Γ (prop (Kf v)) (‵ (frame E cs) ∷ Γ)
       (runs C Λ E (seq (cond c (seq (assign (place 0 []) (rvOpd (copy (place i [])))) return) skip) rest) (atRet E Kf))
   returns-early t {Γ} {E} {cs} {Kf = Kf} {v = v} o e typed z zs = step (λ s. first t $ branches t o
@@ -392,7 +394,8 @@ module _ {M : Type 1} {𝓤 : URA M} {H : Heap 𝓤} {A : Atoms 𝓤} {K : Type 
       use1 W (‵ (cells E (set cs 0 (full v)))) (frame-out 𝓤 H A W E (set cs 0 (full v))) $ frees-all t Γ E (set cs 0 (full v)) (prop (Kf v)) zs s)
       (λ n. absurd n))
 
-  pub goes-past : K → {Γ : List (Item 𝓤)} {E : List Spot} {C : Calls 𝓤 H} {Λ : Loops 𝓤 H} {q : Post 𝓤 H} {c : Operand} {b rest : Body} → Opd K W Γ E c (vbool false)
+  pub goes-past : K → {Γ : List (Item 𝓤)} {E : List Spot} {C : Calls 𝓤 H} {Λ : Loops 𝓤 H} {q : Post 𝓤 H} {c : Operand} {b rest : Body}
+      → Opd K W Γ E c (vbool false)
       → Step K W Γ (runs C Λ E rest q) Γ (runs C Λ E (seq (cond c b skip) rest) q)
   goes-past t o = step (λ s. first t $ branches t o (λ n. absurd n) (λ _. skips t $ record { prf = s .prf }))
 

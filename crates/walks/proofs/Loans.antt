@@ -289,7 +289,8 @@ module _ {M : Type 1} {𝓤 : URA M} {H : Heap 𝓤} {A : Atoms 𝓤} {T : Ended
       (asked : (ν : Names ls) → Hands 𝓤 H A (typesAt (T .signature .params) (at ν .0)) (at ν .3) (at ν .4))
       (lasts : (ν : Names ls) → Lasts T (at ν .0) (at ν .3) → LastValues ls)
       → ((ν : Names ls) → tokens-of 𝓤 ls ν ++ owned 𝓤 ls ν ≡ Before 𝓤 H A T c (at ν) (ghost ν) (asked ν))
-      → ((ν : Names ls) (ws : Lasts T (at ν .0) (at ν .3)) → After 𝓤 H A T c (at ν) (ghost ν) ws ≡ tokens-of 𝓤 ls ν ++ ended 𝓤 ls ν (lasts ν ws)) → Takes 𝓤 H A T c ls
+      → ((ν : Names ls) (ws : Lasts T (at ν .0) (at ν .3)) → After 𝓤 H A T c (at ν) (ghost ν) ws ≡ tokens-of 𝓤 ls ν ++ ended 𝓤 ls ν (lasts ν ws))
+      → Takes 𝓤 H A T c ls
   takes at ghost asked lasts before after = record { at = at; ghost = ghost; asked = asked; lasts = lasts; before = before; after = after }
 
 -- i is what stands first, the caller's locals: it stays there, and the operands are read with it

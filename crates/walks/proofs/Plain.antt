@@ -20,7 +20,21 @@ use denote.RattleType.{RattleType}
 use denote.Exit.{yes, unchanged}
 use denote.Laws.{Is, Tells, Makes, Copy}
 use denote.Memory.{lone}
-use denote.Plain.{UInt, Boolean, Nothing, uint-tells, uint-lawful, uint-makes, uint-copy, bool-tells, bool-makes, bool-copy, nothing-tells, nothing-makes, nothing-copy}
+use denote.Plain.{
+  UInt,
+  Boolean,
+  Nothing,
+  uint-tells,
+  uint-lawful,
+  uint-makes,
+  uint-copy,
+  bool-tells,
+  bool-makes,
+  bool-copy,
+  nothing-tells,
+  nothing-makes,
+  nothing-copy,
+}
 use denote.Signed.{SInt, sint-tells, sint-lawful, sint-makes, sint-copy}
 use denote.Floats.{FloatOf, float-tells, float-lawful, float-makes, float-copy}
 use denote.Steps.{only}

@@ -74,7 +74,8 @@ module _ (s : List ℕ) where
         pairs-are = ep ∙ few-all s (accepted-few s batch-passed)
 
         pub pairs-inside : AllWithin (sizeN (codeOf s)) (length values) (pairsOf pairs)
-        pairs-inside = let b = batchIn s in rw (ev, pairs-are) (all-inside (b .code) (b .rule) (length (b .values)) (b .pairs) (roomOf (b .memory)) batch-passed)
+        pairs-inside =
+            let b = batchIn s in rw (ev, pairs-are) (all-inside (b .code) (b .rule) (length (b .values)) (b .pairs) (roomOf (b .memory)) batch-passed)
 
         pub place-inside : place < length (pairsOf pairs)
         place-inside =

@@ -38,7 +38,8 @@ unfolding checkLine entries entry pairText field decimal leading checks rowsOfSe
 check-line = refl
 
 -- `checksum 0000 2bf8`
-checksum-line : reasonLine checks [] (Checksum 0 0x2bf8) ≡ 99 ∷ 104 ∷ 101 ∷ 99 ∷ 107 ∷ 115 ∷ 117 ∷ 109 ∷ 32 ∷ 48 ∷ 48 ∷ 48 ∷ 48 ∷ 32 ∷ 50 ∷ 98 ∷ 102 ∷ 56 ∷ 10 ∷ []
+checksum-line : reasonLine checks [] (Checksum 0 0x2bf8) ≡ 99 ∷ 104 ∷ 101 ∷ 99 ∷ 107 ∷ 115 ∷ 117 ∷ 109 ∷ 32 ∷ 48 ∷ 48 ∷ 48 ∷ 48 ∷ 32 ∷ 50 ∷ 98 ∷ 102 ∷ 56 ∷ 10
+    ∷ []
 unfolding checksumLine hexDigit
 checksum-line = refl
 

@@ -25,12 +25,14 @@ named-by code values word (byCheck c all (counted d h n below)) = h
 named-by code values word (byChecksum a b all s c p q n) = tt
 named-by code values word (isClean h) = tt
 
-pub reason-named : (code rule : ℕ) (scale : Float) (values : List Float) (limit : ℕ) {r : Reason} → r ≡ reasonUnder code rule scale values limit → Named (checksOf code) r
+pub reason-named : (code rule : ℕ) (scale : Float) (values : List Float) (limit : ℕ) {r : Reason} → r ≡ reasonUnder code rule scale values limit
+    → Named (checksOf code) r
 reason-named code rule scale values limit e =
     rw e (named-by code values (chosen (decodeOf code rule scale values) limit) (under-holds code rule scale values limit))
 
 -- what was found of the values that a header's numbers decode is the line of the frame
-pub frame-line : (s : List ℕ) (h : Header) → HeaderOf s h → (all : List Float) (pairs : List Pair) (part values : List Float) → part ≡ values → {word : Word} {r : Reason}
+pub frame-line : (s : List ℕ) (h : Header) → HeaderOf s h → (all : List Float) (pairs : List Pair) (part values : List Float) → part ≡ values
+    → {word : Word} {r : Reason}
     → word ≡ chosen (decodeOf (h .code) (h .rule) (h .scale) part) (h .limit) → r ≡ reasonUnder (h .code) (h .rule) (h .scale) part (h .limit)
     → reasonLine (checksOf (h .code)) word r ≡ frameLine (batch (codeOf s) (ruleOf s) (limitOf s) (scaleOf s) all pairs (lent [] [] [] [] [])) values
 unfolding frameLine

@@ -20,7 +20,8 @@ pub pair-length : (p bit : ℕ) → length (pairText p bit) ≡ length (field sp
 unfolding pairText
 pair-length p bit = simp length-append
 
-pub check-length : (checks : Checks) (word : Word) (c : ℕ) → length (checkLine checks word c) ≡ length (field checkWord c) + (length (entries (getD checks c []) word) + 1)
+pub check-length : (checks : Checks) (word : Word) (c : ℕ)
+    → length (checkLine checks word c) ≡ length (field checkWord c) + (length (entries (getD checks c []) word) + 1)
 unfolding checkLine
 check-length checks word c = simp length-append
 

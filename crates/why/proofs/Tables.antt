@@ -16,7 +16,8 @@ use Rattle.staircase.specs.Codes.{checks}
 use Rattle.staircase.proofs.N512R12.{checkStarts0, checkBits0, check-starts-right0, check-bits-right0}
 use Rattle.staircase.proofs.N576R23.{checkStarts1, checkBits1, check-starts-right1, check-bits-right1}
 use Rattle.staircase.proofs.N512R34.{checkStarts2, checkBits2, check-starts-right2, check-bits-right2}
-use Rattle.ldpc_codes.proofs.Laid.{laid-flat, checks-are}
+use Rattle.staircase.proofs.Positions.{checks-many}
+use Rattle.ldpc_codes.proofs.Laid.{laid-flat}
 use Rattle.ldpc.specs.Code174 as code174
 use Rattle.ldpc.specs.Agreement.{each}
 use Rattle.ldpc.proofs.Tests.{each-at}
@@ -57,7 +58,8 @@ pub record Tables (code : ℕ) (starts positions : List ℕ) : Type 0 where
   pub short : Short (checksOf code)
 
 -- of a code whose checks are these
-tables-by : (code : ℕ) (rs : Checks) (starts positions : List ℕ) → checksOf code ≡ rs → starts ≡ offsets rs → rowsOf starts positions ≡ rs → FlatChecks starts positions (sizeN code)
+tables-by : (code : ℕ) (rs : Checks) (starts positions : List ℕ) → checksOf code ≡ rs → starts ≡ offsets rs → rowsOf starts positions ≡ rs
+    → FlatChecks starts positions (sizeN code)
     → (n : ℕ) → length rs ≡ n → each n (λ c. leb (getD starts (c + 1) 0 - getD starts c 0) 11) ≡ true → Tables code starts positions
 tables-by code rs starts positions e s r f n size t = record {
   flat = f;
@@ -67,10 +69,11 @@ tables-by code rs starts positions e s r f n size t = record {
 }
 
 -- of a staircase code
-stairs-by : (code : ℕ) (c : Code) (starts positions : List ℕ) → checksOf code ≡ checks c → sizeN code ≡ blockLength c → starts ≡ offsets (checks c) → positions ≡ joined (checks c)
+stairs-by : (code : ℕ) (c : Code) (starts positions : List ℕ) → checksOf code ≡ checks c → sizeN code ≡ blockLength c → starts ≡ offsets (checks c)
+    → positions ≡ joined (checks c)
     → c .m < 65536 → each (c .m) (λ k. leb (getD starts (k + 1) 0 - getD starts k 0) 11) ≡ true → Tables code starts positions
 stairs-by code c starts positions e n s f small t =
-    tables-by code (checks c) starts positions e s (rw (s, f) (rows-laid (checks c))) (rw n (laid-flat c starts positions s f small)) (c .m) (checks-are c) t
+    tables-by code (checks c) starts positions e s (rw (s, f) (rows-laid (checks c))) (rw n (laid-flat c starts positions s f small)) (c .m) (checks-many c) t
 
 pub tables0 : Tables 0 checkStarts0 checkBits0
 unfolding checksOf sizeN checkStarts0 each
@@ -108,6 +111,7 @@ module _ {code : ℕ} {starts positions : List ℕ} (t : Tables code starts posi
   gives k e {out} {after} {r} w = subst (λ (cs : Checks). Written out 0 (checkLine cs word c) after r) (t .rows ∙ ap checksOf (sym e)) w
 
 -- the line of a reason, once it is known which one it is
-pub line-of : (code : ℕ) (word : Word) (reason known : Reason) → reason ≡ known → {out after : List ℕ} {r : ℕ} → Written out 0 (reasonLine (checksOf code) word known) after r
+pub line-of : (code : ℕ) (word : Word) (reason known : Reason) → reason ≡ known → {out after : List ℕ} {r : ℕ}
+    → Written out 0 (reasonLine (checksOf code) word known) after r
     → (Written out 0 (reasonLine (checksOf code) word reason) after r) × (r ≤ 256)
 line-of code word reason known e w = rw e (w, omega (arith, w .end, reason-short (checksOf code) word (all-short code) known))

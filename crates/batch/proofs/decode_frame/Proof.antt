@@ -41,7 +41,9 @@ returns c =
     let done = c .before .before .before .before in
     let chosen = ft8-chosen done in
     let a = entry (chosen .before) .args in
-    let r = frame-ft8 (a .code) (a .rule) (a .scale) (a .limit) (a .llr .now) _ _ _ _ (chosen .if1 .taken) (chosen .before .rule-of .ensures) (done .decode-ft8 .ensures .0) in
+    let r =
+    frame-ft8 (a .code) (a .rule) (a .scale) (a .limit) (a .llr .now) _ _ _ _ (chosen .if1 .taken) (chosen .before .rule-of .ensures)
+    (done .decode-ft8 .ensures .0) in
     (r, done .decode-ft8 .ensures .1)
 
 decode-staircase-requires : tie.Need-decode-staircase-requires
@@ -64,7 +66,8 @@ returns-2 c =
     let chosen = staircase-chosen done in
     let a = entry (chosen .before) .args in
     let r =
-    frame-staircase (a .code) (a .rule) (a .scale) (a .limit) (a .llr .now) _ _ _ _ (chosen .if1 .left) (chosen .before .rule-of .ensures) (done .decode-staircase .ensures .0)
+    frame-staircase (a .code) (a .rule) (a .scale) (a .limit) (a .llr .now) _ _ _ _ (chosen .if1 .left) (chosen .before .rule-of .ensures)
+    (done .decode-staircase .ensures .0)
     in
     (r, done .decode-staircase .ensures .1)
 

@@ -95,7 +95,8 @@ loop-again c =
     let l = i .before in
     let b = handed l in
     going-more (start l .pre) (l .loop .inv) (place i)
-    (d .decode-place .ensures ∙ ap (λ (o : ℕ). placed (frameDecode b (frameOf (b .values) (pair o (sizeN (b .code))))) (b .limit) (sizeK (b .code)) (l .loop .j) (memory l))
+    (d .decode-place .ensures
+    ∙ ap (λ (o : ℕ). placed (frameDecode b (frameOf (b .values) (pair o (sizeN (b .code))))) (b .limit) (sizeK (b .code)) (l .loop .j) (memory l))
     (sym (offset i)))
     (search needs)
 

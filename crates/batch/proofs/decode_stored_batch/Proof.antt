@@ -3,10 +3,6 @@ use Rattle.batch.proofs.Whole.{at-rule}
 use borrow.Author.Needs.{needs}
 use Rattle.batch.proofs.decode_stored_batch.Statement.{statement}
 use Rattle.batch.proofs.decode_stored_batch.Tie as tie
-use Rattle.batch.proofs.decode_stored_batch.Reads as reads
-use Rattle.batch.proofs.decode_stored_batch.Lts as lts
-use Rattle.batch.proofs.decode_batch.Reads as decode-batch-reads
-use Rattle.batch.proofs.stored_rule.Reads as stored-rule-reads
 
 -- ---- places of the walk
 

@@ -3,7 +3,7 @@ use mathlib.Core.Path.{_≡_, sym, ap, _∙_}
 use mathlib.Core.Bool.{false, true}
 use borrow.Author.Tests.{lt-ltb, le-ltb, eq-eqb, ne-eqb}
 use native.Mathlib.Omega.{arith}
-use Prim.Native.Nat.{ℕ, _*_, _≤_}
+use Prim.Native.Nat.{ℕ, _*_}
 use lib.Dec.{eqb, ltb}
 use Rattle.batch.specs.Codes.{sizeK}
 use Rattle.batch.specs.Calls.{ruleNotOfCode}
@@ -109,7 +109,17 @@ returns-8 c =
     let h = sixth i in
     let g = fifth h in
     let f = fourth g in
-    simp (code-right (second f .before), rule-right (second f), rule-of-code (f .before), few f, bits-right g, counts-right h, rounds-right i, ne-eqb _ _ (c .if8 .taken))
+    simp (
+      code-right (second f .before),
+      rule-right (second f),
+      rule-of-code (f .before),
+      few f,
+      bits-right g,
+      counts-right h,
+      rounds-right i,
+      ne-eqb _ _
+          (c .if8 .taken),
+    )
 
 returns-9 : tie.Need-returns-9
 returns-9 c =
@@ -118,7 +128,17 @@ returns-9 c =
     let h = sixth i in
     let g = fifth h in
     let f = fourth g in
-    simp (code-right (second f .before), rule-right (second f), rule-of-code (f .before), few f, bits-right g, counts-right h, rounds-right i, firsts-right j, lt-ltb _ _ (c .if9 .taken))
+    simp (
+      code-right (second f .before),
+      rule-right (second f),
+      rule-of-code (f .before),
+      few f,
+      bits-right g,
+      counts-right h,
+      rounds-right i,
+      firsts-right j,
+      lt-ltb _ _ (c .if9 .taken),
+    )
 
 returns-10 : tie.Need-returns-10
 returns-10 c =
@@ -127,7 +147,17 @@ returns-10 c =
     let h = sixth i in
     let g = fifth h in
     let f = fourth g in
-    simp (code-right (second f .before), rule-right (second f), rule-of-code (f .before), few f, bits-right g, counts-right h, rounds-right i, firsts-right j, le-ltb _ _ (c .if9 .left))
+    simp (
+      code-right (second f .before),
+      rule-right (second f),
+      rule-of-code (f .before),
+      few f,
+      bits-right g,
+      counts-right h,
+      rounds-right i,
+      firsts-right j,
+      le-ltb _ _ (c .if9 .left),
+    )
 
 pub head-fault-spec : {M : Type 1} → statement M
 head-fault-spec =

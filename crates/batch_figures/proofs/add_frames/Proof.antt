@@ -51,7 +51,8 @@ place i = omega (arith, i .loop-test .taken, start (i .before) .pre .1 .1 .0 .0)
 
 -- the frame that is added is the one at that place
 same-frame : (c : tie.After-clean-at Inv-loop μ-loop) → let l = c .before .before in let r = handed l in
-    _≡_ {A = Frame} (record { count = getD (r .counts) (l .loop .j) 0; rounds = getD (r .rounds) (l .loop .j) 0; clean = c .clean-at .result }) (frameAt r (l .loop .j))
+    _≡_ {A = Frame} (record { count = getD (r .counts) (l .loop .j) 0; rounds = getD (r .rounds) (l .loop .j) 0; clean = c .clean-at .result })
+    (frameAt r (l .loop .j))
 same-frame c = rw (c .clean-at .ensures)
 
 -- ---- the needs

@@ -14,7 +14,9 @@ float-from-bits-result c = rw (nanBits-above binary32 (c .before .args .bits), l
 
 returns : tie.Need-returns
 unfolding floatOf div ofBits
-returns c = sym (nan-bits (c .before .args .bits) (rw (nanBits-above binary32 (c .before .args .bits)) (lt-ltb 2139095040 (c .before .args .bits % 2147483648) (c .if1 .taken))))
+returns c =
+    sym (nan-bits (c .before .args .bits)
+    (rw (nanBits-above binary32 (c .before .args .bits)) (lt-ltb 2139095040 (c .before .args .bits % 2147483648) (c .if1 .taken))))
 
 returns-2 : tie.Need-returns-2
 unfolding floatOf

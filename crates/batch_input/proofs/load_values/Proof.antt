@@ -16,7 +16,8 @@ abbrev μ-loop : tie.MeasureT-loop
 μ-loop input at values₀ i₀ values i = length values₀ - i
 
 loop-holds : tie.Need-loop-holds Inv-loop μ-loop
-loop-holds c = (search needs, refl, load-none floatOf (c .before .before .args .input .now) (c .before .before .args .at) (c .before .before .args .values .now))
+loop-holds c =
+    (search needs, refl, load-none floatOf (c .before .before .args .input .now) (c .before .before .args .at) (c .before .before .args .values .now))
 
 mul-u32-at : tie.Need-mul-u32-at Inv-loop μ-loop
 mul-u32-at c = search needs
@@ -48,7 +49,8 @@ loop-again c =
     let now = c .before .before .before .loop in (
       omega arith,
       simp length-set (omega arith),
-      load-more floatOf (start .args .input .now) (start .args .at) now.values now.i _ (omega arith) (c .float-of .ensures ∙ ap floatOf (c .before .u32-at .ensures)) (now .inv .2),
+      load-more floatOf (start .args .input .now) (start .args .at) now.values now.i _ (omega arith)
+          (c .float-of .ensures ∙ ap floatOf (c .before .u32-at .ensures)) (now .inv .2),
     )
 
 same-length : tie.Need-same-length Inv-loop μ-loop

@@ -16,7 +16,8 @@ abbrev μ-loop : tie.MeasureT-loop
 μ-loop input at words₀ i₀ words i = length words₀ - i
 
 loop-holds : tie.Need-loop-holds Inv-loop μ-loop
-loop-holds c = (search needs, refl, load-none (λ w. w) (c .before .before .args .input .now) (c .before .before .args .at) (c .before .before .args .words .now))
+loop-holds c =
+    (search needs, refl, load-none (λ w. w) (c .before .before .args .input .now) (c .before .before .args .at) (c .before .before .args .words .now))
 
 mul-u32-at : tie.Need-mul-u32-at Inv-loop μ-loop
 mul-u32-at c = search needs

@@ -1,9 +1,9 @@
 -- `batch_input::read_values` meets its contract: the values to the input's end are read, and the array's front has them. Assumes nothing.
-use mathlib.Core.Path.{_≡_, sym, ap, _∙_}
+use mathlib.Core.Path.{sym, ap, _∙_}
 use Prim.Native.Nat.{ℕ, _-_, _/_, _≤_}
 use native.Mathlib.Omega.{arith}
 use lib.ListN.{length}
-use Rattle.batch_input.specs.Input.{valuesStart, valueCount, valuesOf, floatOf, u32sFrom}
+use Rattle.batch_input.specs.Input.{valuesOf, floatOf, u32sFrom}
 use Rattle.batch_input.proofs.Room.{part-length, back, back-fits}
 use Rattle.batch_input.proofs.Wellformed.{Wellformed, wellformed}
 use borrow.Author.Needs.{needs}

@@ -8,8 +8,6 @@ use Rattle.clean.specs.Clean.{anyNan}
 use Rattle.clean.proofs.Steps.{nan-here, nan-later, none-left}
 use Rattle.clean.proofs.any_nan.Statement.{statement}
 use Rattle.clean.proofs.any_nan.Tie as tie
-use Rattle.clean.proofs.any_nan.Reads as reads
-use Rattle.clean.proofs.any_nan.Lts as lts
 
 abbrev Inv-loop : tie.InvT-loop
 Inv-loop values i₀ i = (i ≤ length values) × (anyNan (drop i values) ≡ anyNan values)
@@ -36,7 +34,11 @@ loop-less : tie.Need-loop-less Inv-loop μ-loop
 loop-less c = search needs
 
 loop-again : tie.Need-loop-again Inv-loop μ-loop
-loop-again c = (omega (arith, c .before .before .loop-test .taken), sym (nan-later _ _ (c .before .before .loop-test .taken) (c .if1 .left)) ∙ c .before .before .before .loop .inv .1)
+loop-again c = (
+  omega (arith, c .before .before .loop-test .taken),
+  sym (nan-later _ _ (c .before .before .loop-test .taken) (c .if1 .left))
+      ∙ c .before .before .before .loop .inv .1,
+)
 
 returns-2 : tie.Need-returns-2 Inv-loop μ-loop
 returns-2 c = none-left _ _ (c .loop-test .left) (c .before .loop .inv .0) (c .before .loop .inv .1)

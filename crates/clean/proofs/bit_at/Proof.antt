@@ -1,5 +1,5 @@
 -- `clean::bit_at` meets its contract: the low bits past the last byte are 0 by default.
-use mathlib.Core.Path.{_≡_, refl, sym}
+use mathlib.Core.Path.{sym}
 use native.Mathlib.Nat.{mod-lt}
 use native.Mathlib.Omega.{arith}
 use lib.ListN.{List·getD-eq-default}
@@ -8,8 +8,6 @@ use Rattle.tanner.proofs.Count.{low-at, low-length}
 use Rattle.tanner.specs.Checks.{lowBits}
 use Rattle.clean.proofs.bit_at.Statement.{statement}
 use Rattle.clean.proofs.bit_at.Tie as tie
-use Rattle.clean.proofs.bit_at.Reads as reads
-use Rattle.clean.proofs.bit_at.Lts as lts
 
 shared-slice-read-result : tie.Need-shared-slice-read-result
 shared-slice-read-result c = search needs

@@ -1,5 +1,5 @@
 -- `clean::checksum_of` meets its contract. The invariant: the register is the checksum of the bits so far.
-use mathlib.Core.Path.{_≡_, refl, sym, ap, _∙_}
+use mathlib.Core.Path.{_≡_, refl, ap, _∙_}
 use Prim.Native.Nat.{ℕ, _+_, _-_, _*_, _%_, _≤_}
 use native.Mathlib.Omega.{arith}
 use lib.Bits.{bitXor}
@@ -11,10 +11,6 @@ use Rattle.crc.specs.Register.{turn}
 use Rattle.clean.proofs.Steps.{padded, padded-length, checksum-lt, checksum-start, checksum-more}
 use Rattle.clean.proofs.checksum_of.Statement.{statement}
 use Rattle.clean.proofs.checksum_of.Tie as tie
-use Rattle.clean.proofs.checksum_of.Reads as reads
-use Rattle.clean.proofs.checksum_of.Lts as lts
-use Rattle.clean.proofs.bit_at.Reads as bit-at-reads
-use Rattle.clean.proofs.turn_bit.Reads as turn-bit-reads
 
 abbrev Inv-loop : tie.InvT-loop
 Inv-loop bytes n r₀ i₀ r i = (n ≡ length bytes + 5) × ((i ≤ n) × (r ≡ qex (take i (padded bytes))))
@@ -32,7 +28,10 @@ bit-at-requires : tie.Need-bit-at-requires Inv-loop μ-loop
 bit-at-requires c κs = search needs
 
 turn-bit-requires : tie.Need-turn-bit-requires Inv-loop μ-loop
-turn-bit-requires c κs = (rw (c .before .before .loop .inv .1 .1) (checksum-lt (c .before .before .before .before .args .bytes .now) (c .before .before .loop .i)), c .bit-at .ensures .1)
+turn-bit-requires c κs = (
+  rw (c .before .before .loop .inv .1 .1) (checksum-lt (c .before .before .before .before .args .bytes .now) (c .before .before .loop .i)),
+  c .bit-at .ensures .1,
+)
 
 add-i : tie.Need-add-i Inv-loop μ-loop
 add-i c = search needs
@@ -45,8 +44,14 @@ loop-again c =
     let loop = c .before .before .before in
     let bytes = loop .before .before .args .bytes .now in
     let inv = loop .loop .inv in
-    let b = c .before .bit-at in
-    (refl, (omega arith, c .turn-bit .ensures ∙ ap (λ (q : ℕ). turn (bitXor q (b .result * 8192)) % 16384) (inv .1 .1) ∙ checksum-more bytes (loop .loop .i) (b .result) (omega (arith, inv .0, c .before .before .loop-test .taken)) (b .ensures .0) (b .ensures .1)))
+    let b = c .before .bit-at in (
+      refl,
+      (
+        omega arith,
+        c .turn-bit .ensures ∙ ap (λ (q : ℕ). turn (bitXor q (b .result * 8192)) % 16384) (inv .1 .1)
+            ∙ checksum-more bytes (loop .loop .i) (b .result) (omega (arith, inv .0, c .before .before .loop-test .taken)) (b .ensures .0) (b .ensures .1),
+      ),
+    )
 
 returns : tie.Need-returns Inv-loop μ-loop
 returns c =

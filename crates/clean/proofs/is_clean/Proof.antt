@@ -1,14 +1,10 @@
 -- `clean::is_clean` meets its contract, test by test.
-use mathlib.Core.Path.{_≡_, refl, sym, _∙_}
+use mathlib.Core.Path.{sym, _∙_}
 use borrow.Author.Tests.{eq-eqb, ne-eqb}
 use Rattle.clean.specs.Clean.{frameClean}
 use borrow.Author.Needs.{needs}
 use Rattle.clean.proofs.is_clean.Statement.{statement}
 use Rattle.clean.proofs.is_clean.Tie as tie
-use Rattle.clean.proofs.is_clean.Reads as reads
-use Rattle.clean.proofs.is_clean.Lts as lts
-use Rattle.clean.proofs.any_nan.Reads as any-nan-reads
-use Rattle.clean.proofs.checksum_right.Reads as checksum-right-reads
 
 returns : tie.Need-returns
 unfolding frameClean
@@ -26,11 +22,18 @@ checksum-right-requires c κs = c .before .before .before .before .before .befor
 
 returns-3 : tie.Need-returns-3
 unfolding frameClean
-returns-3 c = simp (eq-eqb _ _ (c .before .before .before .before .if1 .left), sym (c .before .before .before .any-nan .ensures) ∙ c .before .before .if2 .left, eq-eqb _ _ (c .before .if3 .taken)) (c .checksum-right .ensures)
+returns-3 c =
+    simp (
+      eq-eqb _ _ (c .before .before .before .before .if1 .left),
+      sym (c .before .before .before .any-nan .ensures)
+          ∙ c .before .before .if2 .left,
+      eq-eqb _ _ (c .before .if3 .taken),
+    ) (c .checksum-right .ensures)
 
 returns-4 : tie.Need-returns-4
 unfolding frameClean
-returns-4 c = simp (eq-eqb _ _ (c .before .before .before .if1 .left), sym (c .before .before .any-nan .ensures) ∙ c .before .if2 .left, ne-eqb _ _ (c .if3 .left))
+returns-4 c =
+    simp (eq-eqb _ _ (c .before .before .before .if1 .left), sym (c .before .before .any-nan .ensures) ∙ c .before .if2 .left, ne-eqb _ _ (c .if3 .left))
 
 pub is-clean-spec : {M : Type 1} → statement M
 is-clean-spec =

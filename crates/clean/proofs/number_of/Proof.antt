@@ -1,5 +1,5 @@
 -- `clean::number_of` meets its contract. The invariant: the number is that of the bits so far, which stays below a power of 2.
-use mathlib.Core.Path.{_≡_, refl, sym, ap, _∙_}
+use mathlib.Core.Path.{_≡_, refl, ap, _∙_}
 use Prim.Native.Nat.{ℕ, _+_, _-_, _*_, _^_, _≤_, _<_}
 use native.Mathlib.Omega.{arith}
 use lib.ListN.{length, take}
@@ -9,9 +9,6 @@ use Rattle.tanner.specs.Checks.{lowBits}
 use Rattle.clean.proofs.Steps.{number-more, all-digits, below-pow, room}
 use Rattle.clean.proofs.number_of.Statement.{statement}
 use Rattle.clean.proofs.number_of.Tie as tie
-use Rattle.clean.proofs.number_of.Reads as reads
-use Rattle.clean.proofs.number_of.Lts as lts
-use Rattle.clean.proofs.bit_at.Reads as bit-at-reads
 
 abbrev Inv-loop : tie.InvT-loop
 Inv-loop bytes n₀ i₀ n i = (i ≤ length bytes) × ((n < 2 ^ i) × (n ≡ number (take i (lowBits bytes))))
@@ -30,7 +27,13 @@ bit-at-requires : tie.Need-bit-at-requires Inv-loop μ-loop
 bit-at-requires c κs = search needs
 
 add-n : tie.Need-add-n Inv-loop μ-loop
-add-n c = omega (arith, room (c .before .before .loop .n) (c .before .before .loop .i) (c .before .before .loop .inv .1 .0) (omega (arith, c .before .loop-test .taken)), c .bit-at .ensures .1)
+add-n c =
+    omega (
+      arith,
+      room (c .before .before .loop .n) (c .before .before .loop .i) (c .before .before .loop .inv .1 .0)
+          (omega (arith, c .before .loop-test .taken)),
+      c .bit-at .ensures .1,
+    )
 
 add-i : tie.Need-add-i Inv-loop μ-loop
 add-i c = search needs
@@ -43,8 +46,14 @@ loop-again c =
     let loop = c .before .before in
     let bytes = loop .before .before .args .bytes .now in
     let inv = loop .loop .inv in
-    let b = c .bit-at in
-    (omega (arith, c .before .loop-test .taken), (below-pow (loop .loop .n) (b .result) (loop .loop .i) (inv .1 .0) (b .ensures .1), ap (λ (n : ℕ). n * 2 + b .result) (inv .1 .1) ∙ number-more bytes (loop .loop .i) (b .result) (c .before .loop-test .taken) (b .ensures .0)))
+    let b = c .bit-at in (
+      omega (arith, c .before .loop-test .taken),
+      (
+        below-pow (loop .loop .n) (b .result) (loop .loop .i) (inv .1 .0) (b .ensures .1),
+        ap (λ (n : ℕ). n * 2 + b .result) (inv .1 .1)
+            ∙ number-more bytes (loop .loop .i) (b .result) (c .before .loop-test .taken) (b .ensures .0),
+      ),
+    )
 
 returns : tie.Need-returns Inv-loop μ-loop
 returns c =

@@ -1,4 +1,5 @@
--- `clean_frames::clean_at` meets its contract: what pair j names lies within the values and is the frame at place j, and its bits lie within all. Assumes nothing.
+-- `clean_frames::clean_at` meets its contract: what pair j names lies within the values and is the frame at place j, and its bits lie within all. Assumes
+-- nothing.
 use mathlib.Core.Path.{_≡_, sym, ap, ap₂, _∙_}
 use mathlib.Core.List.{List}
 use Prim.Native.Nat.{ℕ, suc, _+_, _*_, _≤_, _<_}

@@ -83,7 +83,8 @@ module _ {M : Type 1} (𝓤 : URA M) (H : Heap 𝓤) (A : Atoms 𝓤) (W : Given
         → Seq K W (‵ (frame E cs) ∷ Held s xs fs Γ) (runs (𝓣 .C) (𝓣 .Λ) E (seq (call #construction·one-pick os d) rest) q)
     picks s t xs fs ok z os k =
         calls-lent W (fmOf 𝓤 H (W .laws) 𝓣) pick.ended (pick.clauses 𝓤 H A mem run) known-pick (to-pick s t (ok .0) xs fs)
-        (takes (λ ν. bound (lent-args (to-pick s t (ok .0) xs fs) ν)) (λ ν. tt) (λ ν. hands 𝓤 H A W (lent-args (to-pick s t (ok .0) xs fs) ν)) (λ ν ws. ws) (λ ν. refl) (λ ν ws. refl))
+        (takes (λ ν. bound (lent-args (to-pick s t (ok .0) xs fs) ν)) (λ ν. tt) (λ ν. hands 𝓤 H A W (lent-args (to-pick s t (ok .0) xs fs) ν)) (λ ν ws. ws)
+        (λ ν. refl) (λ ν ws. refl))
         (λ ν. factI 𝓤 _ (emp 𝓤) ok) (λ ν x ws. (ws .0 .state ≡ draw s) × Placed (length ls) n t (ws .0 .state) xs ls x (ws .1 .0) (ws .1 .1 .1 .1 .1 .0))
         (λ ν x ws. id⊢ 𝓤 _)
         z (λ ν. os _ _) (λ ν v x ws e same. k v x (ws .0 .state) (ws .1 .0) (ws .1 .1 .1 .1 .1 .0) (e .0) (same .1 .0, same .1 .1 .1 .0) (e .1))
@@ -127,7 +128,8 @@ module _ {M : Type 1} (𝓤 : URA M) (H : Heap 𝓤) (A : Atoms 𝓤) (W : Given
         -- the column is finished: the generator stands behind, and the three others are lent
         passes-on ! refl tt tt xs-fit $ passes-on ! refl tt tt ls-fit $ passes-on ! refl tt tt fs-fit $ move ! (0 ∷ 2 ∷ 3 ∷ 4 ∷ []) $
         calls-lent W (fmOf 𝓤 H (W .laws) 𝓣) finish.ended (finish.clauses 𝓤 H A mem run) known-finish (to-finish xs₃ fs₃)
-        (takes (λ ν. bound (lent-args (to-finish xs₃ fs₃) ν)) (λ ν. tt) (λ ν. hands 𝓤 H A W (lent-args (to-finish xs₃ fs₃) ν)) (λ ν ws. ws) (λ ν. refl) (λ ν ws. refl))
+        (takes (λ ν. bound (lent-args (to-finish xs₃ fs₃) ν)) (λ ν. tt) (λ ν. hands 𝓤 H A W (lent-args (to-finish xs₃ fs₃) ν)) (λ ν ws. ws) (λ ν. refl)
+        (λ ν ws. refl))
         (λ ν. factI 𝓤 _ (emp 𝓤) (p₃ .1 .begun)) (λ ν _ ws. Finished (length ls) n (columnAt xs₃ n) xs₃ (ws .0) (ws .1 .1 .0) (ws .1 .1 .1 .0))
         (λ ν _ ws. id⊢ 𝓤 _)
         ! (λ ν. args ! (loc 32 ∷ loc 3 ∷ loc 34 ∷ loc 36 ∷ []) refl) (λ ν v _ ws f same. stores ! (ap only (f .0)) tt (tt, tt) $

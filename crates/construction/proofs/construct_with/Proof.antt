@@ -146,7 +146,8 @@ module _ {M : Type 1} (𝓤 : URA M) (H : Heap 𝓤) (A : Atoms 𝓤) (W : Given
               -- the four references are lent to `column`
               sets ! (addr ! (points ! refl)) tt (tt, tt) $ passes-on ! refl tt tt xs-fit $ passes-on ! refl tt tt ls-fit $ passes-on ! refl tt tt fs-fit $
               calls-lent W (fmOf 𝓤 H (W .laws) 𝓣) column.ended (column.clauses 𝓤 H A mem run) known (to-column i p)
-              (takes (λ ν. bound (lent-args (to-column i p) ν)) (λ ν. tt) (λ ν. hands 𝓤 H A W (lent-args (to-column i p) ν)) (λ ν ws. ws) (λ ν. refl) (λ ν ws. refl))
+              (takes (λ ν. bound (lent-args (to-column i p) ν)) (λ ν. tt) (λ ν. hands 𝓤 H A W (lent-args (to-column i p) ν)) (λ ν ws. ws) (λ ν. refl)
+              (λ ν ws. refl))
               (λ ν. factI 𝓤 _ (emp 𝓤) (ready (ok .few) i p))
               (λ ν r ws. ColumnMade (length (i .loads)) (i .n) (i .state) (i .rows) (ws .0 .state) r (ws .1 .0) (ws .1 .1 .1 .0) (ws .1 .1 .1 .1 .0))
               (λ ν r ws. id⊢ 𝓤 _)

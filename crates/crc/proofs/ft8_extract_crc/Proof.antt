@@ -33,7 +33,9 @@ cast-low : tie.Need-cast-low
 cast-low c = omega (arith, c .shared-slice-known3 .given 11)
 
 returns-2 : tie.Need-returns-2
-returns-2 c = simp (eq-eqb _ _ (c .before .before .before .if1 .left)) (ap accepted (carried-read _ (c .before .before .before .if1 .left) (λ i. omega (arith, c .shared-slice-known3 .given i))))
+returns-2 c =
+    simp (eq-eqb _ _ (c .before .before .before .if1 .left))
+    (ap accepted (carried-read _ (c .before .before .before .if1 .left) (λ i. omega (arith, c .shared-slice-known3 .given i))))
 
 pub ft8-extract-crc-spec : {M : Type 1} → statement M
 ft8-extract-crc-spec =

@@ -33,8 +33,11 @@ loop-less c = search needs
 loop-again : tie.Need-loop-again Inv-loop μ-loop
 unfolding turnsUp
 loop-again c =
-    let l = c .before .before in
-    (search needs, c .step-up .ensures ∙ ap turnUp (l .loop .inv .1) ∙ ap (λ (n : ℕ). turnsUp n (takenIn (l .before .before .args .r) (l .before .before .args .byte))) (sym (add-one (l .loop .j))))
+    let l = c .before .before in (
+      search needs,
+      c .step-up .ensures ∙ ap turnUp (l .loop .inv .1)
+          ∙ ap (λ (n : ℕ). turnsUp n (takenIn (l .before .before .args .r) (l .before .before .args .byte))) (sym (add-one (l .loop .j))),
+    )
 
 returns : tie.Need-returns Inv-loop μ-loop
 returns c =

@@ -99,7 +99,9 @@ exact : (d : tie.After-decode-input) → roomOf (memory d) ≡ roomOf (memoryFor
 exact d =
     let m = M d in
     let a = entry m .args in
-    let right = room-right (codeOf (input m)) (N m) _ _ _ _ _ (sym (part-length (a .bits .now) _ (bits-room m)) ∙ size-is m) (sym (part-length (a .counts .now) _ (counts-room m)))
+    let right =
+    room-right (codeOf (input m)) (N m) _ _ _ _ _ (sym (part-length (a .bits .now) _ (bits-room m)) ∙ size-is m)
+    (sym (part-length (a .counts .now) _ (counts-room m)))
     (sym (part-length (a .rounds .now) _ (rounds-room m))) (sym (part-length (a .firsts .now) _ (firsts-room m))) (length-replicate 3070 zero32)
     in
     right ∙ ap (λ (k : ℕ). roomOf (memoryFor (codeOf (input m)) k)) (frames-are m)
@@ -140,16 +142,25 @@ module _ (d : tie.After-decode-input) (ok : statusOf (d .decode-input .result) �
   whole = size-is (M d) ∙ ap (λ (n : ℕ). n * sizeK (codeOf (input (M d)))) all-held
 
   fronts : let a = entry (M d) .args in let n = N (M d) in
-      Fronts (input (M d)) (bits′ d ++ drop (size (M d)) (a .bits .now)) (counts′ d ++ drop n (a .counts .now)) (rounds′ d ++ drop n (a .rounds .now)) (firsts′ d ++ drop n (a .firsts .now))
+      Fronts (input (M d)) (bits′ d ++ drop (size (M d)) (a .bits .now)) (counts′ d ++ drop n (a .counts .now)) (rounds′ d ++ drop n (a .rounds .now))
+      (firsts′ d ++ drop n (a .firsts .now))
   fronts =
       let m = M d in
       let a = entry m .args in
       let kept = d .decode-input .kept .1 .1 .1 in
       record {
-        itsBits = ap (λ (n : ℕ). take n (bits′ d ++ drop (size m) (a .bits .now))) (sym whole) ∙ back (a .bits .now) _ (bits-room m) (bits′ d) (kept .0) ∙ outputs .bits;
-        itsCounts = ap (λ (n : ℕ). take n (counts′ d ++ drop (N m) (a .counts .now))) (sym all-held) ∙ back (a .counts .now) _ (counts-room m) (counts′ d) (kept .1 .0) ∙ outputs .counts;
-        itsRounds = ap (λ (n : ℕ). take n (rounds′ d ++ drop (N m) (a .rounds .now))) (sym all-held) ∙ back (a .rounds .now) _ (rounds-room m) (rounds′ d) (kept .1 .1 .0) ∙ outputs .rounds;
-        itsFirsts = ap (λ (n : ℕ). take n (firsts′ d ++ drop (N m) (a .firsts .now))) (sym all-held) ∙ back (a .firsts .now) _ (firsts-room m) (firsts′ d) (kept .1 .1 .1 .0) ∙ outputs .firsts;
+        itsBits =
+            ap (λ (n : ℕ). take n (bits′ d ++ drop (size m) (a .bits .now))) (sym whole) ∙ back (a .bits .now) _ (bits-room m) (bits′ d) (kept .0)
+            ∙ outputs .bits;
+        itsCounts =
+            ap (λ (n : ℕ). take n (counts′ d ++ drop (N m) (a .counts .now))) (sym all-held)
+            ∙ back (a .counts .now) _ (counts-room m) (counts′ d) (kept .1 .0) ∙ outputs .counts;
+        itsRounds =
+            ap (λ (n : ℕ). take n (rounds′ d ++ drop (N m) (a .rounds .now))) (sym all-held)
+            ∙ back (a .rounds .now) _ (rounds-room m) (rounds′ d) (kept .1 .1 .0) ∙ outputs .rounds;
+        itsFirsts =
+            ap (λ (n : ℕ). take n (firsts′ d ++ drop (N m) (a .firsts .now))) (sym all-held)
+            ∙ back (a .firsts .now) _ (firsts-room m) (firsts′ d) (kept .1 .1 .1 .0) ∙ outputs .firsts;
       }
 
 -- ---- the needs

@@ -4,10 +4,6 @@ use Rattle.desklink.proofs.Signed.{read-back}
 use borrow.Author.Needs.{needs}
 use Rattle.desklink.proofs.answer_code.Statement.{statement}
 use Rattle.desklink.proofs.answer_code.Tie as tie
-use Rattle.desklink.proofs.answer_code.Reads as reads
-use Rattle.desklink.proofs.answer_code.Lts as lts
-use Rattle.desklink.proofs.refusal_code.Reads as refusal-code-reads
-use Rattle.desklink.proofs.value_code.Reads as value-code-reads
 
 enum-known-answer : tie.Need-enum-known-answer
 enum-known-answer c = search needs

@@ -4,11 +4,6 @@ use Rattle.desklink.proofs.Signed.{read-back}
 use borrow.Author.Needs.{needs}
 use Rattle.desklink.proofs.counting_code.Statement.{statement}
 use Rattle.desklink.proofs.counting_code.Tie as tie
-use Rattle.desklink.proofs.counting_code.Reads as reads
-use Rattle.desklink.proofs.counting_code.Lts as lts
-use Rattle.batch.proofs.place_of.Reads as place-of-reads
-use Rattle.desklink.proofs.refusal_code.Reads as refusal-code-reads
-use Rattle.desklink.proofs.value_code.Reads as value-code-reads
 
 enum-known-answer : tie.Need-enum-known-answer
 enum-known-answer c = search needs
@@ -32,7 +27,8 @@ returns c =
 
 returns-2 : tie.Need-returns-2
 returns-2 c =
-    rw (c .before .before .answer2 .given .1) (record { itsCount = read-back (record { sfits = c .refusal-code .ok }) ∙ c .refusal-code .ensures; itsFirst = refl })
+    rw (c .before .before .answer2 .given .1)
+    (record { itsCount = read-back (record { sfits = c .refusal-code .ok }) ∙ c .refusal-code .ensures; itsFirst = refl })
 
 pub counting-code-spec : {M : Type 1} → statement M
 counting-code-spec =

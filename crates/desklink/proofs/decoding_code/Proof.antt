@@ -4,11 +4,6 @@ use Rattle.desklink.proofs.Signed.{read-back}
 use borrow.Author.Needs.{needs}
 use Rattle.desklink.proofs.decoding_code.Statement.{statement}
 use Rattle.desklink.proofs.decoding_code.Tie as tie
-use Rattle.desklink.proofs.decoding_code.Reads as reads
-use Rattle.desklink.proofs.decoding_code.Lts as lts
-use Rattle.batch.proofs.place_of.Reads as place-of-reads
-use Rattle.desklink.proofs.refusal_code.Reads as refusal-code-reads
-use Rattle.desklink.proofs.value_code.Reads as value-code-reads
 
 enum-known-answer : tie.Need-enum-known-answer
 enum-known-answer c = search needs
@@ -28,11 +23,13 @@ refusal-code-requires c κs = search needs
 returns : tie.Need-returns
 returns c =
     let told = c .before .before .before .answer .given in
-    rw (told .1) (record { itsCount = read-back (record { sfits = c .value-code .ok }) ∙ c .value-code .ensures; itsRounds = refl; itsFirst = c .before .place-of .ensures })
+    rw (told .1)
+    (record { itsCount = read-back (record { sfits = c .value-code .ok }) ∙ c .value-code .ensures; itsRounds = refl; itsFirst = c .before .place-of .ensures })
 
 returns-2 : tie.Need-returns-2
 returns-2 c =
-    rw (c .before .before .answer2 .given .1) (record { itsCount = read-back (record { sfits = c .refusal-code .ok }) ∙ c .refusal-code .ensures; itsRounds = refl; itsFirst = refl })
+    rw (c .before .before .answer2 .given .1)
+    (record { itsCount = read-back (record { sfits = c .refusal-code .ok }) ∙ c .refusal-code .ensures; itsRounds = refl; itsFirst = refl })
 
 pub decoding-code-spec : {M : Type 1} → statement M
 decoding-code-spec =

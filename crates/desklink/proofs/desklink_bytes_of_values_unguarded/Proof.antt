@@ -1,14 +1,10 @@
 -- `desklink::desklink_bytes_of_values_unguarded` meets its contract: the answer of the call beneath, as a number. Assumes nothing.
-use mathlib.Core.Path.{_≡_, ap, _∙_}
+use mathlib.Core.Path.{ap, _∙_}
 use Rattle.desklink.proofs.Signed.{read-back}
 use Rattle.desklink.specs.Coded.{codedUnit}
 use borrow.Author.Needs.{needs}
 use Rattle.desklink.proofs.desklink_bytes_of_values_unguarded.Statement.{statement}
 use Rattle.desklink.proofs.desklink_bytes_of_values_unguarded.Tie as tie
-use Rattle.desklink.proofs.desklink_bytes_of_values_unguarded.Reads as reads
-use Rattle.desklink.proofs.desklink_bytes_of_values_unguarded.Lts as lts
-use Rattle.eighths.proofs.bytes_of_values.Reads as bytes-of-values-reads
-use Rattle.desklink.proofs.status_code.Reads as status-code-reads
 
 bytes-of-values-requires : tie.Need-bytes-of-values-requires
 bytes-of-values-requires c κs = search needs
@@ -20,7 +16,11 @@ same-length : tie.Need-same-length
 same-length c = search needs
 
 returns : tie.Need-returns
-returns c = (read-back (record { sfits = c .status-code .ok }) ∙ c .status-code .ensures ∙ ap codedUnit (c .before .before .bytes-of-values .ensures .0), c .before .before .bytes-of-values .ensures .1)
+returns c = (
+  read-back (record { sfits = c .status-code .ok }) ∙ c .status-code .ensures
+      ∙ ap codedUnit (c .before .before .bytes-of-values .ensures .0),
+  c .before .before .bytes-of-values .ensures .1,
+)
 
 pub desklink-bytes-of-values-unguarded-spec : {M : Type 1} → statement M
 desklink-bytes-of-values-unguarded-spec = tie.close (tie.spec bytes-of-values-requires status-code-requires same-length returns)

@@ -1,4 +1,5 @@
--- `desklink::desklink_decode_pairs_unguarded` meets its contract: a walk of its MIR, by hand. The lists are lent to `decode_pairs`, and its answer is told as a number.
+-- `desklink::desklink_decode_pairs_unguarded` meets its contract: a walk of its MIR, by hand. The lists are lent to `decode_pairs`, and its answer is told as a
+-- number.
 -- Assumes nothing.
 use mathlib.Core.Path.{_≡_, refl, ap, _∙_}
 use mathlib.Core.List.{List, [], _∷_}
@@ -75,7 +76,8 @@ module _ {M : Type 1} (𝓤 : URA M) (H : Heap 𝓤) (A : Atoms 𝓤) (W : Given
   meets = meets-by W this.ended (stays params) (this.clauses 𝓤 H A mem run) 𝓣 code-of.function (all-spell params) (all-tell params) (all-go 𝓤 H A W params)
       (λ κs a. Unit {0}) (λ κs a g. factI 𝓤 _ (emp 𝓤) tt)
       (λ κs qs _ a g are ok. walk (numbers-of (a .0) (a .1 .0) (a .1 .1 .0) (a .1 .1 .1 .0) (are .0) (are .1 .0) (are .1 .1 .0) (are .1 .1 .1 .0))
-      (handles (a .1 .1 .1 .1) κs qs) (now (a .1 .1 .1 .1 .0)) (now (a .1 .1 .1 .1 .1 .0)) (contents (a .1 .1 .1 .1)) (sizes-of (a .1 .1 .1 .1) (are .1 .1 .1 .1)))
+      (handles (a .1 .1 .1 .1) κs qs) (now (a .1 .1 .1 .1 .0)) (now (a .1 .1 .1 .1 .1 .0)) (contents (a .1 .1 .1 .1))
+      (sizes-of (a .1 .1 .1 .1) (are .1 .1 .1 .1)))
 
 pub desklink-decode-pairs-unguarded-spec : {M : Type 1} → stated.statement M
 unfolding code-of.routine tablesOf

@@ -4,10 +4,6 @@ use Rattle.desklink.proofs.Told.{decode-told}
 use borrow.Author.Needs.{needs}
 use Rattle.desklink.proofs.desklink_decode_soft_with_unguarded.Statement.{statement}
 use Rattle.desklink.proofs.desklink_decode_soft_with_unguarded.Tie as tie
-use Rattle.desklink.proofs.desklink_decode_soft_with_unguarded.Reads as reads
-use Rattle.desklink.proofs.desklink_decode_soft_with_unguarded.Lts as lts
-use Rattle.decoders.proofs.decode_soft_with.Reads as decode-soft-with-reads
-use Rattle.desklink.proofs.decoding_code.Reads as decoding-code-reads
 
 abbrev decoded : tie.After-decoding-code → tie.After-decode-soft-with
 decoded c = c .before .before .before .before .before .before .before

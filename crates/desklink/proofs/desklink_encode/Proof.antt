@@ -5,10 +5,6 @@ use Rattle.desklink.proofs.Signed.{read-back}
 use borrow.Author.Needs.{needs}
 use Rattle.desklink.proofs.desklink_encode.Statement.{statement}
 use Rattle.desklink.proofs.desklink_encode.Tie as tie
-use Rattle.desklink.proofs.desklink_encode.Reads as reads
-use Rattle.desklink.proofs.desklink_encode.Lts as lts
-use Rattle.desklink.proofs.status_code.Reads as status-code-reads
-use Rattle.ldpc_codes.proofs.encode.Reads as encode-reads
 
 encode-requires : tie.Need-encode-requires
 encode-requires c κs = search needs

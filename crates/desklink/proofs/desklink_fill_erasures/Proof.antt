@@ -5,10 +5,6 @@ use Rattle.desklink.specs.Coded.{coded}
 use borrow.Author.Needs.{needs}
 use Rattle.desklink.proofs.desklink_fill_erasures.Statement.{statement}
 use Rattle.desklink.proofs.desklink_fill_erasures.Tie as tie
-use Rattle.desklink.proofs.desklink_fill_erasures.Reads as reads
-use Rattle.desklink.proofs.desklink_fill_erasures.Lts as lts
-use Rattle.erasure.proofs.fill_erasures.Reads as mend-reads
-use Rattle.desklink.proofs.answer_code.Reads as answer-code-reads
 
 fill-erasures-requires : tie.Need-fill-erasures-requires
 fill-erasures-requires c κs = search needs
@@ -23,7 +19,11 @@ same-length-2 : tie.Need-same-length-2
 same-length-2 c = search needs
 
 returns : tie.Need-returns
-returns c = (read-back (record { sfits = c .answer-code .ok }) ∙ c .answer-code .ensures ∙ ap coded (c .before .before .before .before .before .fill-erasures .ensures .0), c .before .before .before .before .before .fill-erasures .ensures .1)
+returns c = (
+  read-back (record { sfits = c .answer-code .ok }) ∙ c .answer-code .ensures
+      ∙ ap coded (c .before .before .before .before .before .fill-erasures .ensures .0),
+  c .before .before .before .before .before .fill-erasures .ensures .1,
+)
 
 pub desklink-fill-erasures-spec : {M : Type 1} → statement M
 desklink-fill-erasures-spec =

@@ -5,10 +5,6 @@ use Rattle.desklink.specs.Coded.{codedUnit}
 use borrow.Author.Needs.{needs}
 use Rattle.desklink.proofs.desklink_ft8_add_crc.Statement.{statement}
 use Rattle.desklink.proofs.desklink_ft8_add_crc.Tie as tie
-use Rattle.desklink.proofs.desklink_ft8_add_crc.Reads as reads
-use Rattle.desklink.proofs.desklink_ft8_add_crc.Lts as lts
-use Rattle.crc.proofs.ft8_add_crc.Reads as ft8-add-crc-reads
-use Rattle.desklink.proofs.status_code.Reads as status-code-reads
 
 ft8-add-crc-requires : tie.Need-ft8-add-crc-requires
 ft8-add-crc-requires c κs = search needs
@@ -20,7 +16,11 @@ same-length : tie.Need-same-length
 same-length c = search needs
 
 returns : tie.Need-returns
-returns c = (read-back (record { sfits = c .status-code .ok }) ∙ c .status-code .ensures ∙ ap codedUnit (c .before .before .before .ft8-add-crc .ensures .0), c .before .before .before .ft8-add-crc .ensures .1)
+returns c = (
+  read-back (record { sfits = c .status-code .ok }) ∙ c .status-code .ensures
+      ∙ ap codedUnit (c .before .before .before .ft8-add-crc .ensures .0),
+  c .before .before .before .ft8-add-crc .ensures .1,
+)
 
 pub desklink-ft8-add-crc-spec : {M : Type 1} → statement M
 desklink-ft8-add-crc-spec =

@@ -5,10 +5,6 @@ use Rattle.desklink.specs.Coded.{coded}
 use borrow.Author.Needs.{needs}
 use Rattle.desklink.proofs.desklink_ft8_crc14.Statement.{statement}
 use Rattle.desklink.proofs.desklink_ft8_crc14.Tie as tie
-use Rattle.desklink.proofs.desklink_ft8_crc14.Reads as reads
-use Rattle.desklink.proofs.desklink_ft8_crc14.Lts as lts
-use Rattle.crc.proofs.ft8_crc14.Reads as ft8-crc14-reads
-use Rattle.desklink.proofs.answer_code.Reads as answer-code-reads
 
 ft8-crc14-requires : tie.Need-ft8-crc14-requires
 ft8-crc14-requires c κs = search needs

@@ -5,10 +5,6 @@ use Rattle.desklink.specs.Coded.{coded}
 use borrow.Author.Needs.{needs}
 use Rattle.desklink.proofs.desklink_ft8_extract_crc.Statement.{statement}
 use Rattle.desklink.proofs.desklink_ft8_extract_crc.Tie as tie
-use Rattle.desklink.proofs.desklink_ft8_extract_crc.Reads as reads
-use Rattle.desklink.proofs.desklink_ft8_extract_crc.Lts as lts
-use Rattle.crc.proofs.ft8_extract_crc.Reads as ft8-extract-crc-reads
-use Rattle.desklink.proofs.answer_code.Reads as answer-code-reads
 
 ft8-extract-crc-requires : tie.Need-ft8-extract-crc-requires
 ft8-extract-crc-requires c κs = search needs

@@ -4,10 +4,6 @@ use Rattle.desklink.proofs.Told.{count-told}
 use borrow.Author.Needs.{needs}
 use Rattle.desklink.proofs.desklink_ldpc_count_errors.Statement.{statement}
 use Rattle.desklink.proofs.desklink_ldpc_count_errors.Tie as tie
-use Rattle.desklink.proofs.desklink_ldpc_count_errors.Reads as reads
-use Rattle.desklink.proofs.desklink_ldpc_count_errors.Lts as lts
-use Rattle.desklink.proofs.counting_code.Reads as counting-code-reads
-use Rattle.ldpc.proofs.ldpc_count_errors.Reads as ldpc-count-errors-reads
 
 ldpc-count-errors-requires : tie.Need-ldpc-count-errors-requires
 ldpc-count-errors-requires c κs = search needs

@@ -4,10 +4,6 @@ use Rattle.desklink.proofs.Told.{decode-told}
 use borrow.Author.Needs.{needs}
 use Rattle.desklink.proofs.desklink_ldpc_decode_soft_unguarded.Statement.{statement}
 use Rattle.desklink.proofs.desklink_ldpc_decode_soft_unguarded.Tie as tie
-use Rattle.desklink.proofs.desklink_ldpc_decode_soft_unguarded.Reads as reads
-use Rattle.desklink.proofs.desklink_ldpc_decode_soft_unguarded.Lts as lts
-use Rattle.decoders.proofs.ldpc_decode_soft.Reads as ldpc-decode-soft-reads
-use Rattle.desklink.proofs.decoding_code.Reads as decoding-code-reads
 
 abbrev decoded : tie.After-decoding-code → tie.After-ldpc-decode-soft
 decoded c = c .before .before .before .before .before .before .before

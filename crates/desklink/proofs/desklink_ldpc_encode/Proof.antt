@@ -5,10 +5,6 @@ use Rattle.desklink.specs.Coded.{codedUnit}
 use borrow.Author.Needs.{needs}
 use Rattle.desklink.proofs.desklink_ldpc_encode.Statement.{statement}
 use Rattle.desklink.proofs.desklink_ldpc_encode.Tie as tie
-use Rattle.desklink.proofs.desklink_ldpc_encode.Reads as reads
-use Rattle.desklink.proofs.desklink_ldpc_encode.Lts as lts
-use Rattle.desklink.proofs.status_code.Reads as status-code-reads
-use Rattle.ldpc.proofs.ldpc_encode.Reads as ldpc-encode-reads
 
 ldpc-encode-requires : tie.Need-ldpc-encode-requires
 ldpc-encode-requires c κs = search needs
@@ -20,7 +16,11 @@ same-length : tie.Need-same-length
 same-length c = search needs
 
 returns : tie.Need-returns
-returns c = (read-back (record { sfits = c .status-code .ok }) ∙ c .status-code .ensures ∙ ap codedUnit (c .before .before .before .ldpc-encode .ensures .0), c .before .before .before .ldpc-encode .ensures .1)
+returns c = (
+  read-back (record { sfits = c .status-code .ok }) ∙ c .status-code .ensures
+      ∙ ap codedUnit (c .before .before .before .ldpc-encode .ensures .0),
+  c .before .before .before .ldpc-encode .ensures .1,
+)
 
 pub desklink-ldpc-encode-spec : {M : Type 1} → statement M
 desklink-ldpc-encode-spec =

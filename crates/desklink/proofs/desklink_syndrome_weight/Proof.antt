@@ -4,10 +4,6 @@ use Rattle.desklink.proofs.Told.{count-told}
 use borrow.Author.Needs.{needs}
 use Rattle.desklink.proofs.desklink_syndrome_weight.Statement.{statement}
 use Rattle.desklink.proofs.desklink_syndrome_weight.Tie as tie
-use Rattle.desklink.proofs.desklink_syndrome_weight.Reads as reads
-use Rattle.desklink.proofs.desklink_syndrome_weight.Lts as lts
-use Rattle.desklink.proofs.counting_code.Reads as counting-code-reads
-use Rattle.ldpc_codes.proofs.syndrome_weight.Reads as syndrome-weight-reads
 
 syndrome-weight-requires : tie.Need-syndrome-weight-requires
 syndrome-weight-requires c κs = search needs

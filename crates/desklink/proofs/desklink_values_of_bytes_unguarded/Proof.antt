@@ -1,14 +1,10 @@
 -- `desklink::desklink_values_of_bytes_unguarded` meets its contract: the answer of the call beneath, as a number. Assumes nothing.
-use mathlib.Core.Path.{_≡_, ap, _∙_}
+use mathlib.Core.Path.{ap, _∙_}
 use Rattle.desklink.proofs.Signed.{read-back}
 use Rattle.desklink.specs.Coded.{codedUnit}
 use borrow.Author.Needs.{needs}
 use Rattle.desklink.proofs.desklink_values_of_bytes_unguarded.Statement.{statement}
 use Rattle.desklink.proofs.desklink_values_of_bytes_unguarded.Tie as tie
-use Rattle.desklink.proofs.desklink_values_of_bytes_unguarded.Reads as reads
-use Rattle.desklink.proofs.desklink_values_of_bytes_unguarded.Lts as lts
-use Rattle.eighths.proofs.values_of_bytes.Reads as values-of-bytes-reads
-use Rattle.desklink.proofs.status_code.Reads as status-code-reads
 
 values-of-bytes-requires : tie.Need-values-of-bytes-requires
 values-of-bytes-requires c κs = search needs
@@ -20,7 +16,11 @@ same-length : tie.Need-same-length
 same-length c = search needs
 
 returns : tie.Need-returns
-returns c = (read-back (record { sfits = c .status-code .ok }) ∙ c .status-code .ensures ∙ ap codedUnit (c .before .before .before .values-of-bytes .ensures .0), c .before .before .before .values-of-bytes .ensures .1)
+returns c = (
+  read-back (record { sfits = c .status-code .ok }) ∙ c .status-code .ensures
+      ∙ ap codedUnit (c .before .before .before .values-of-bytes .ensures .0),
+  c .before .before .before .values-of-bytes .ensures .1,
+)
 
 pub desklink-values-of-bytes-unguarded-spec : {M : Type 1} → statement M
 desklink-values-of-bytes-unguarded-spec = tie.close (tie.spec values-of-bytes-requires status-code-requires same-length returns)

@@ -27,7 +27,8 @@ returns c = rw (c .before .answer .given .1) (record { itsCycles = long-pos (c .
 
 returns-2 : tie.Need-returns-2
 returns-2 c =
-    rw (c .before .before .answer2 .given .1) (record { itsCycles = read-back (record { sfits = c .refusal-code .ok }) ∙ c .refusal-code .ensures; itsRelaxed = refl })
+    rw (c .before .before .answer2 .given .1)
+    (record { itsCycles = read-back (record { sfits = c .refusal-code .ok }) ∙ c .refusal-code .ensures; itsRelaxed = refl })
 
 pub listed-code-spec : {M : Type 1} → statement M
 listed-code-spec =

@@ -36,7 +36,8 @@ returns c =
 
 returns-2 : tie.Need-returns-2
 returns-2 c =
-    rw (c .before .before .answer2 .given .1) (record { itsKind = read-back (record { sfits = c .refusal-code .ok }) ∙ c .refusal-code .ensures; itsPart = refl; itsComputed = refl })
+    rw (c .before .before .answer2 .given .1)
+    (record { itsKind = read-back (record { sfits = c .refusal-code .ok }) ∙ c .refusal-code .ensures; itsPart = refl; itsComputed = refl })
 
 pub reason-code-spec : {M : Type 1} → statement M
 reason-code-spec =

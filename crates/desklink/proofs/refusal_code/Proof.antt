@@ -7,9 +7,6 @@ use Rattle.desklink.proofs.Signed.{minus-short, minus-read}
 use borrow.Author.Needs.{needs}
 use Rattle.desklink.proofs.refusal_code.Statement.{statement}
 use Rattle.desklink.proofs.refusal_code.Tie as tie
-use Rattle.desklink.proofs.refusal_code.Reads as reads
-use Rattle.desklink.proofs.refusal_code.Lts as lts
-use Rattle.refusal.proofs.number.Reads as number-reads
 
 number-requires : tie.Need-number-requires
 number-requires c κs = search needs

@@ -4,9 +4,6 @@ use Rattle.desklink.proofs.Signed.{read-back}
 use borrow.Author.Needs.{needs}
 use Rattle.desklink.proofs.status_code.Statement.{statement}
 use Rattle.desklink.proofs.status_code.Tie as tie
-use Rattle.desklink.proofs.status_code.Reads as reads
-use Rattle.desklink.proofs.status_code.Lts as lts
-use Rattle.desklink.proofs.refusal_code.Reads as refusal-code-reads
 
 enum-told : tie.Need-enum-told
 enum-told c = search needs

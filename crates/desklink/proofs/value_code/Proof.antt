@@ -3,8 +3,6 @@ use Rattle.desklink.proofs.Signed.{short-pos}
 use borrow.Author.Needs.{needs}
 use Rattle.desklink.proofs.value_code.Statement.{statement}
 use Rattle.desklink.proofs.value_code.Tie as tie
-use Rattle.desklink.proofs.value_code.Reads as reads
-use Rattle.desklink.proofs.value_code.Lts as lts
 
 cast-result : tie.Need-cast-result
 cast-result c = search needs

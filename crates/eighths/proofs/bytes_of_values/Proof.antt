@@ -13,7 +13,8 @@ returns : tie.Need-returns
 unfolding valuesRefusals
 returns c =
     let a = c .before .before .args in
-    lengths-differ (length (a .values .now)) (length (a .bytes .now)) 18 (some (λ v. not (passes v)) (a .values .now)) (a .bytes .now) (bytesOf (a .positive-is-one) (a .values .now)) (c .if1 .taken)
+    lengths-differ (length (a .values .now)) (length (a .bytes .now)) 18 (some (λ v. not (passes v)) (a .values .now)) (a .bytes .now)
+    (bytesOf (a .positive-is-one) (a .values .now)) (c .if1 .taken)
 
 some-not-passing-requires : tie.Need-some-not-passing-requires
 some-not-passing-requires c κs = search needs
@@ -23,7 +24,8 @@ unfolding valuesRefusals
 returns-2 c =
     let tested = c .before in
     let a = tested .before .before .before .args in
-    test-holds (length (a .values .now)) (length (a .bytes .now)) 18 (some (λ v. not (passes v)) (a .values .now)) (a .bytes .now) (bytesOf (a .positive-is-one) (a .values .now)) (tested .before .if1 .left) (sym (tested .some-not-passing .ensures) ∙ c .if2 .taken)
+    test-holds (length (a .values .now)) (length (a .bytes .now)) 18 (some (λ v. not (passes v)) (a .values .now)) (a .bytes .now)
+    (bytesOf (a .positive-is-one) (a .values .now)) (tested .before .if1 .left) (sym (tested .some-not-passing .ensures) ∙ c .if2 .taken)
 
 write-bytes-requires : tie.Need-write-bytes-requires
 write-bytes-requires c κs =
@@ -40,7 +42,9 @@ returns-3 c =
     let other = done .before .before in
     let tested = other .before in
     let a = tested .before .before .before .args in
-    written (length (a .values .now)) (length (a .bytes .now)) 18 (some (λ v. not (passes v)) (a .values .now)) (a .bytes .now) (bytesOf (a .positive-is-one) (a .values .now)) _ (tested .before .if1 .left) (sym (tested .some-not-passing .ensures) ∙ other .if2 .left) (done .write-bytes .ensures)
+    written (length (a .values .now)) (length (a .bytes .now)) 18 (some (λ v. not (passes v)) (a .values .now)) (a .bytes .now)
+    (bytesOf (a .positive-is-one) (a .values .now)) _ (tested .before .if1 .left) (sym (tested .some-not-passing .ensures) ∙ other .if2 .left)
+    (done .write-bytes .ensures)
 
 pub bytes-of-values-spec : {M : Type 1} → statement M
 bytes-of-values-spec = tie.close (tie.spec returns some-not-passing-requires returns-2 write-bytes-requires same-length returns-3)

@@ -29,7 +29,8 @@ returns c =
     let turn = c .before .before in
     let bytes = turn .before .before .args .bytes .now in
     let i = turn .before .loop .i in
-    some-found isLeast (pos 0) bytes _ i (turn .loop-test .taken) (least-bits (getD bytes i (pos 0)) (record { sfits = c .before .b .given }) (c .if1 .taken)) (turn .before .loop .inv .1)
+    some-found isLeast (pos 0) bytes _ i (turn .loop-test .taken) (least-bits (getD bytes i (pos 0)) (record { sfits = c .before .b .given }) (c .if1 .taken))
+    (turn .before .loop .inv .1)
 
 add-i : tie.Need-add-i Inv-loop μ-loop
 add-i c = search needs

@@ -43,8 +43,11 @@ loop-less c = search needs
 
 loop-again : tie.Need-loop-again Inv-loop μ-loop
 loop-again c =
-    let turn = c .before .before .before in
-    (omega arith, some-more (λ v. not (passes v)) nan _ _ _ (turn .loop-test .taken) (ap not (sym (c .before .passes .ensures)) ∙ c .if1 .left) (turn .before .loop .inv .1))
+    let turn = c .before .before .before in (
+      omega arith,
+      some-more (λ v. not (passes v)) nan _ _ _ (turn .loop-test .taken) (ap not (sym (c .before .passes .ensures)) ∙ c .if1 .left)
+          (turn .before .loop .inv .1),
+    )
 
 returns-2 : tie.Need-returns-2 Inv-loop μ-loop
 returns-2 c = some-none (λ v. not (passes v)) nan _ _ _ (c .loop-test .left) (c .before .loop .inv .1)

@@ -12,7 +12,8 @@ returns : tie.Need-returns
 unfolding bytesRefusals
 returns c =
     let a = c .before .before .args in
-    lengths-differ (length (a .bytes .now)) (length (a .values .now)) 17 (some isLeast (a .bytes .now)) (a .values .now) (valuesOf (a .positive-is-one) (a .bytes .now)) (c .if1 .taken)
+    lengths-differ (length (a .bytes .now)) (length (a .values .now)) 17 (some isLeast (a .bytes .now)) (a .values .now)
+    (valuesOf (a .positive-is-one) (a .bytes .now)) (c .if1 .taken)
 
 some-least-requires : tie.Need-some-least-requires
 some-least-requires c κs = search needs
@@ -22,7 +23,8 @@ unfolding bytesRefusals
 returns-2 c =
     let tested = c .before in
     let a = tested .before .before .before .args in
-    test-holds (length (a .bytes .now)) (length (a .values .now)) 17 (some isLeast (a .bytes .now)) (a .values .now) (valuesOf (a .positive-is-one) (a .bytes .now)) (tested .before .if1 .left) (sym (tested .some-least .ensures) ∙ c .if2 .taken)
+    test-holds (length (a .bytes .now)) (length (a .values .now)) 17 (some isLeast (a .bytes .now)) (a .values .now)
+    (valuesOf (a .positive-is-one) (a .bytes .now)) (tested .before .if1 .left) (sym (tested .some-least .ensures) ∙ c .if2 .taken)
 
 write-values-requires : tie.Need-write-values-requires
 write-values-requires c κs = search needs
@@ -37,7 +39,9 @@ returns-3 c =
     let other = done .before .before in
     let tested = other .before in
     let a = tested .before .before .before .args in
-    written (length (a .bytes .now)) (length (a .values .now)) 17 (some isLeast (a .bytes .now)) (a .values .now) (valuesOf (a .positive-is-one) (a .bytes .now)) _ (tested .before .if1 .left) (sym (tested .some-least .ensures) ∙ other .if2 .left) (done .write-values .ensures)
+    written (length (a .bytes .now)) (length (a .values .now)) 17 (some isLeast (a .bytes .now)) (a .values .now)
+    (valuesOf (a .positive-is-one) (a .bytes .now)) _ (tested .before .if1 .left) (sym (tested .some-least .ensures) ∙ other .if2 .left)
+    (done .write-values .ensures)
 
 pub values-of-bytes-spec : {M : Type 1} → statement M
 values-of-bytes-spec = tie.close (tie.spec returns some-least-requires returns-2 write-values-requires same-length returns-3)

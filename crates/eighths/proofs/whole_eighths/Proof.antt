@@ -20,7 +20,8 @@ returns : tie.Need-returns
 returns c =
     let called = c .before .before in
     let start = called .before .before .before in
-    found (start .args .v) (start .pre .0) (start .pre .1) (called .truncating-f32-to-u64 .result) (called .truncating-f32-to-u64 .ensures) (c .before .if3 .taken)
+    found (start .args .v) (start .pre .0) (start .pre .1) (called .truncating-f32-to-u64 .result) (called .truncating-f32-to-u64 .ensures)
+    (c .before .if3 .taken)
 
 returns-2 : tie.Need-returns-2
 returns-2 c =

@@ -17,7 +17,8 @@ use Rattle.eighths.proofs.write_bytes.Statement.{statement}
 use Rattle.eighths.proofs.write_bytes.Tie as tie
 
 abbrev Inv-loop : tie.InvT-loop
-Inv-loop values positive-is-one bytes₀ i₀ bytes i = (i ≤ length bytes) × (length bytes ≡ length bytes₀) × (take i bytes ≡ bytesOf positive-is-one (take i values))
+Inv-loop values positive-is-one bytes₀ i₀ bytes i =
+    (i ≤ length bytes) × (length bytes ≡ length bytes₀) × (take i bytes ≡ bytesOf positive-is-one (take i values))
 
 abbrev μ-loop : tie.MeasureT-loop
 μ-loop values positive-is-one bytes₀ i₀ bytes i = length bytes₀ - i

@@ -14,7 +14,8 @@ use Rattle.eighths.proofs.write_values.Statement.{statement}
 use Rattle.eighths.proofs.write_values.Tie as tie
 
 abbrev Inv-loop : tie.InvT-loop
-Inv-loop bytes positive-is-one values₀ i₀ values i = (i ≤ length values) × (length values ≡ length values₀) × (take i values ≡ valuesOf positive-is-one (take i bytes))
+Inv-loop bytes positive-is-one values₀ i₀ values i =
+    (i ≤ length values) × (length values ≡ length values₀) × (take i values ≡ valuesOf positive-is-one (take i bytes))
 
 abbrev μ-loop : tie.MeasureT-loop
 μ-loop bytes positive-is-one values₀ i₀ values i = length values₀ - i
@@ -49,7 +50,8 @@ loop-again c =
     let now = turn .before .loop in (
       simp length-set (omega arith),
       simp length-set (omega arith),
-      fill-more (valueOf (a .positive-is-one)) (pos 0) (a .bytes .now) now.values now.i _ (omega arith) (omega arith) (c .value-of .ensures ∙ ap (valueOf (a .positive-is-one)) (toZ-ofZ w8 _ (record { sfits = c .before .b .given }))) (now .inv .2),
+      fill-more (valueOf (a .positive-is-one)) (pos 0) (a .bytes .now) now.values now.i _ (omega arith) (omega arith)
+          (c .value-of .ensures ∙ ap (valueOf (a .positive-is-one)) (toZ-ofZ w8 _ (record { sfits = c .before .b .given }))) (now .inv .2),
     )
 
 same-length : tie.Need-same-length Inv-loop μ-loop

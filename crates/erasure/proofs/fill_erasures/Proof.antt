@@ -36,7 +36,9 @@ returns c =
     let done = c .before .before .before .before in
     let chosen = done .before .before .before .before .before in
     let a = chosen .before .before .before .args in
-    rw (chosen .if1 .taken) (at-checks _ _ (staircase-rows n512r12 checkStarts0 checkBits0 check-starts-right0 check-bits-right0) _ (a .word .now) (a .places .now) (done .fill-over .ensures))
+    rw (chosen .if1 .taken)
+    (at-checks _ _ (staircase-rows n512r12 checkStarts0 checkBits0 check-starts-right0 check-bits-right0) _ (a .word .now) (a .places .now)
+    (done .fill-over .ensures))
 
 slice-aggregate-fill-over-3 : tie.Need-slice-aggregate-fill-over-3
 slice-aggregate-fill-over-3 c = search needs
@@ -60,7 +62,9 @@ returns-2 c =
     let done = c .before .before .before .before in
     let chosen = done .before .before .before .before .before in
     let a = chosen .before .before .before .before .args in
-    rw (chosen .if2 .taken) (at-checks _ _ (staircase-rows n576r23 checkStarts1 checkBits1 check-starts-right1 check-bits-right1) _ (a .word .now) (a .places .now) (done .fill-over2 .ensures))
+    rw (chosen .if2 .taken)
+    (at-checks _ _ (staircase-rows n576r23 checkStarts1 checkBits1 check-starts-right1 check-bits-right1) _ (a .word .now) (a .places .now)
+    (done .fill-over2 .ensures))
 
 slice-aggregate-fill-over-5 : tie.Need-slice-aggregate-fill-over-5
 slice-aggregate-fill-over-5 c = search needs
@@ -84,7 +88,9 @@ returns-3 c =
     let done = c .before .before .before .before in
     let chosen = done .before .before .before .before .before in
     let a = chosen .before .before .before .before .before .args in
-    rw (chosen .if3 .taken) (at-checks _ _ (staircase-rows n512r34 checkStarts2 checkBits2 check-starts-right2 check-bits-right2) _ (a .word .now) (a .places .now) (done .fill-over3 .ensures))
+    rw (chosen .if3 .taken)
+    (at-checks _ _ (staircase-rows n512r34 checkStarts2 checkBits2 check-starts-right2 check-bits-right2) _ (a .word .now) (a .places .now)
+    (done .fill-over3 .ensures))
 
 slice-aggregate-fill-over-7 : tie.Need-slice-aggregate-fill-over-7
 slice-aggregate-fill-over-7 c = search needs
@@ -111,7 +117,8 @@ returns-4 c =
     rw (chosen .if4 .taken) (at-checks _ _ laid _ (a .word .now) (a .places .now) (done .fill-over4 .ensures))
 
 returns-5 : tie.Need-returns-5
-returns-5 c = let h : 3 < c .before .before .before .before .before .before .args .code = omega arith in (simp (lt-ltb _ _ h), (simp (lt-ltb _ _ h), simp (lt-ltb _ _ h)))
+returns-5 c =
+    let h : 3 < c .before .before .before .before .before .before .args .code = omega arith in (simp (lt-ltb _ _ h), (simp (lt-ltb _ _ h), simp (lt-ltb _ _ h)))
 
 pub fill-erasures-spec : {M : Type 1} → statement M
 fill-erasures-spec =

@@ -44,7 +44,8 @@ returns-4 c =
     let third = done .before .before .before in
     let second = third .before .before .before in
     let e = done .fill .ensures in
-    simp (eq-eqb _ _ (second .before .if1 .left), eq-eqb _ _ (second .if2 .left), sym (third .before .above-two .ensures) ∙ third .if3 .left) (ap accepted (e .0), e .1)
+    simp (eq-eqb _ _ (second .before .if1 .left), eq-eqb _ _ (second .if2 .left), sym (third .before .above-two .ensures) ∙ third .if3 .left)
+    (ap accepted (e .0), e .1)
 
 pub fill-over-spec : {M : Type 1} → statement M
 fill-over-spec =

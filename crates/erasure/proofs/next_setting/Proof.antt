@@ -4,7 +4,7 @@ use Prim.Native.Nat.{_+_, _-_, _≤_, _<_}
 use native.Mathlib.Omega.{arith}
 use lib.ListN.{length, getD}
 use Rattle.tanner.specs.Flat.{rowsFrom, rowsOf, Within}
-use Rattle.tanner.proofs.Steps.{part-below}
+use Rattle.tanner.proofs.Below.{below-part}
 use Rattle.erasure.specs.Filling.{lowest}
 use Rattle.erasure.specs.Calls.{nextOf}
 use Rattle.erasure.proofs.Steps.{lowest-found, lowest-more, lowest-done}
@@ -69,7 +69,7 @@ next-in-requires c κs =
     let loop = c .before .before .before .before in
     let start = loop .before .before .before .before in
     let s = start .args .starts .now in
-    part-below _ _ (getD s (loop .loop .c) 0) (getD s (loop .loop .c + 1) 0) (start .pre .low)
+    below-part _ _ (getD s (loop .loop .c) 0) (getD s (loop .loop .c + 1) 0) (start .pre .low)
 
 enum-known-p : tie.Need-enum-known-p Inv-loop μ-loop
 enum-known-p c = search needs

@@ -34,7 +34,8 @@ first m = m .before .before
 abbrev share-of : tie.After-a → Fraction
 share-of a = record { over = a .a .given .0 .0; under = a .a .given .0 .1 .0 }
 
-share-is : (a : tie.After-a) → let t = total (a .before .before) in accepted (share-of a) ≡ judged (fractionRefusals (t .frames)) (lowest (t .clean) (t .frames))
+share-is : (a : tie.After-a) → let t =
+    total (a .before .before) in accepted (share-of a) ≡ judged (fractionRefusals (t .frames)) (lowest (t .clean) (t .frames))
 share-is a = sym (ap figureOf (a .a .given .1)) ∙ a .before .before .clean-share .ensures
 
 abbrev asked : tie.After-mean-count → tie.After-clean-share

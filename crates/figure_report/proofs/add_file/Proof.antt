@@ -60,7 +60,9 @@ returns-3 c =
     let k = done .before .before .before in
     let h = k .before .before in
     let a = entry (h .before .before) .args in
-    rw (readable h) (refused-step (a .place) (a .total) (a .input .now) _ _ _ (k .r .given .0 .0) (sym (ap summedOf (k .r .given .1)) ∙ h .add-input .ensures) (done .file-line2 .ensures))
+    rw (readable h)
+    (refused-step (a .place) (a .total) (a .input .now) _ _ _ (k .r .given .0 .0) (sym (ap summedOf (k .r .given .1)) ∙ h .add-input .ensures)
+    (done .file-line2 .ensures))
 
 pub add-file-spec : {M : Type 1} → statement M
 add-file-spec =

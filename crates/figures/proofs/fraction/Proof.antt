@@ -2,8 +2,9 @@
 use Prim.Native.Nat.{_<_}
 use borrow.Author.Needs.{needs}
 use borrow.Author.Tests.{eq-eqb, ne-eqb}
+use native.Mathlib.Nat.{pos-of-ne-zero}
 use Rattle.figures.specs.Fraction.{gcd, lowest}
-use Rattle.figures.proofs.Euclid.{gcd-pos, some-of-ne}
+use Rattle.figures.proofs.Euclid.{gcd-pos}
 use Rattle.figures.proofs.fraction.Statement.{statement}
 use Rattle.figures.proofs.fraction.Tie as tie
 
@@ -14,7 +15,7 @@ gcd-requires : tie.Need-gcd-requires
 gcd-requires c κs = search needs
 
 some : (c : tie.After-gcd) → 0 < c .gcd .result
-some c = rw (c .gcd .ensures) (gcd-pos (c .before .before .args .n) (c .before .before .args .frames) (some-of-ne _ (c .before .if1 .left)))
+some c = rw (c .gcd .ensures) (gcd-pos (c .before .before .args .n) (c .before .before .args .frames) (pos-of-ne-zero (c .before .if1 .left)))
 
 div-t7 : tie.Need-div-t7
 div-t7 c = some c

@@ -1,8 +1,8 @@
 -- `figures::gcd` meets its contract. The invariant: what is left of the pair has the greatest common divisor of a and b.
 use mathlib.Core.Path.{_≡_, refl, sym, ap, _∙_}
-use native.Mathlib.Nat.{mod-lt}
+use native.Mathlib.Nat.{pos-of-ne-zero, mod-lt}
 use Rattle.figures.specs.Fraction.{gcd}
-use Rattle.figures.proofs.Euclid.{gcd-zero, gcd-step, some-of-ne}
+use Rattle.figures.proofs.Euclid.{gcd-zero, gcd-step}
 use Rattle.figures.proofs.gcd.Statement.{statement}
 use Rattle.figures.proofs.gcd.Tie as tie
 
@@ -16,13 +16,13 @@ loop-holds : tie.Need-loop-holds Inv-loop μ-loop
 loop-holds c = refl
 
 rem-rest : tie.Need-rem-rest Inv-loop μ-loop
-rem-rest c = some-of-ne _ (c .loop-test .taken)
+rem-rest c = pos-of-ne-zero (c .loop-test .taken)
 
 loop-less : tie.Need-loop-less Inv-loop μ-loop
-loop-less c = mod-lt (c .before .loop .x) (some-of-ne _ (c .loop-test .taken))
+loop-less c = mod-lt (c .before .loop .x) (pos-of-ne-zero (c .loop-test .taken))
 
 loop-again : tie.Need-loop-again Inv-loop μ-loop
-loop-again c = sym (gcd-step (c .before .loop .x) (c .before .loop .y) (some-of-ne _ (c .loop-test .taken))) ∙ c .before .loop .inv
+loop-again c = sym (gcd-step (c .before .loop .x) (c .before .loop .y) (pos-of-ne-zero (c .loop-test .taken))) ∙ c .before .loop .inv
 
 returns : tie.Need-returns Inv-loop μ-loop
 returns c = sym (gcd-zero (c .before .loop .x)) ∙ ap (gcd (c .before .loop .x)) (sym (c .loop-test .left)) ∙ c .before .loop .inv

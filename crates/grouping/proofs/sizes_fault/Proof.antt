@@ -4,7 +4,8 @@ use mathlib.Core.Path.{_≡_, sym}
 use Prim.Native.Nat.{_<_, _≤_, _-_}
 use native.Mathlib.Omega.{arith}
 use lib.ListN.{length, drop}
-use Rattle.grouping.proofs.Sizes.{wrong, no-list, some-size, refused-zero, refused-past, rest-next, refused-left, all-taken}
+use native.Mathlib.Nat.{pos-of-ne-zero}
+use Rattle.grouping.proofs.Sizes.{wrong, no-list, refused-zero, refused-past, rest-next, refused-left, all-taken}
 use borrow.Author.Needs.{needs}
 use Rattle.grouping.proofs.sizes_fault.Statement.{statement}
 use Rattle.grouping.proofs.sizes_fault.Tie as tie
@@ -18,7 +19,7 @@ abbrev μ-loop : tie.MeasureT-loop
 -- ---- places of the walk
 
 some : (c : tie.At-loop Inv-loop μ-loop) → 0 < length (c .before .before .args .sizes .now)
-some c = some-size _ (c .before .if1 .left)
+some c = pos-of-ne-zero (c .before .if1 .left)
 
 -- where a size is read
 abbrev read : tie.Else2 Inv-loop μ-loop → tie.In-loop Inv-loop μ-loop

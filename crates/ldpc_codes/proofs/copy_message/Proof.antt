@@ -9,8 +9,6 @@ use Rattle.ldpc_codes.proofs.Laid.{copied-more}
 use borrow.Author.Needs.{needs}
 use Rattle.ldpc_codes.proofs.copy_message.Statement.{statement}
 use Rattle.ldpc_codes.proofs.copy_message.Tie as tie
-use Rattle.ldpc_codes.proofs.copy_message.Reads as reads
-use Rattle.ldpc_codes.proofs.copy_message.Lts as lts
 
 abbrev Inv-loop : tie.InvT-loop
 Inv-loop message codeword₀ i₀ codeword i = (i ≤ length message) × ((length codeword ≡ length codeword₀) × (codeword ≡ take i message ++ drop i codeword₀))
@@ -34,13 +32,18 @@ loop-less : tie.Need-loop-less Inv-loop μ-loop
 loop-less c = search needs
 
 loop-again : tie.Need-loop-again Inv-loop μ-loop
-loop-again c = (search needs, (simp length-set (omega arith), copied-more _ _ _ _ (c .before .loop-test .taken) (c .before .before .before .pre) (c .before .before .loop .inv .1 .1)))
+loop-again c = (
+  search needs,
+  (simp length-set (omega arith), copied-more _ _ _ _ (c .before .loop-test .taken) (c .before .before .before .pre) (c .before .before .loop .inv .1 .1)),
+)
 
 same-length : tie.Need-same-length Inv-loop μ-loop
 same-length c = search needs
 
 returns : tie.Need-returns Inv-loop μ-loop
-returns c = let e : c .before .loop .i ≡ length (c .before .before .args .message .now) = omega arith in (c .before .loop .inv .1 .1) ∙ rw (e, take-length (c .before .before .args .message .now))
+returns c =
+    let e : c .before .loop .i ≡ length (c .before .before .args .message .now) =
+    omega arith in (c .before .loop .inv .1 .1) ∙ rw (e, take-length (c .before .before .args .message .now))
 
 pub copy-message-spec : {M : Type 1} → statement M
 copy-message-spec =

@@ -5,11 +5,6 @@ use borrow.Author.Tests.{le-ltb}
 use borrow.Author.Needs.{needs}
 use Rattle.ldpc_codes.proofs.encode.Statement.{statement}
 use Rattle.ldpc_codes.proofs.encode.Tie as tie
-use Rattle.ldpc_codes.proofs.encode.Reads as reads
-use Rattle.ldpc_codes.proofs.encode.Lts as lts
-use Rattle.ldpc_codes.proofs.encode_n512r12.Reads as encode-n512r12-reads
-use Rattle.ldpc_codes.proofs.encode_n512r34.Reads as encode-n512r34-reads
-use Rattle.ldpc_codes.proofs.encode_n576r23.Reads as encode-n576r23-reads
 
 encode-n512r12-requires : tie.Need-encode-n512r12-requires
 encode-n512r12-requires c κs = search needs

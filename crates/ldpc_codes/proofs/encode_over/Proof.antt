@@ -6,10 +6,6 @@ use Rattle.stairs.specs.Stairs.{filled}
 use borrow.Author.Needs.{needs}
 use Rattle.ldpc_codes.proofs.encode_over.Statement.{statement}
 use Rattle.ldpc_codes.proofs.encode_over.Tie as tie
-use Rattle.ldpc_codes.proofs.encode_over.Reads as reads
-use Rattle.ldpc_codes.proofs.encode_over.Lts as lts
-use Rattle.ldpc_codes.proofs.copy_message.Reads as copy-message-reads
-use Rattle.stairs.proofs.fill.Reads as fill-reads
 
 returns : tie.Need-returns
 returns c = let t = ne-eqb _ _ (c .if1 .taken) in (simp t, simp t)

@@ -5,11 +5,6 @@ use borrow.Author.Tests.{le-ltb}
 use borrow.Author.Needs.{needs}
 use Rattle.ldpc_codes.proofs.syndrome_weight.Statement.{statement}
 use Rattle.ldpc_codes.proofs.syndrome_weight.Tie as tie
-use Rattle.ldpc_codes.proofs.syndrome_weight.Reads as reads
-use Rattle.ldpc_codes.proofs.syndrome_weight.Lts as lts
-use Rattle.ldpc_codes.proofs.weight_n512r12.Reads as weight-n512r12-reads
-use Rattle.ldpc_codes.proofs.weight_n512r34.Reads as weight-n512r34-reads
-use Rattle.ldpc_codes.proofs.weight_n576r23.Reads as weight-n576r23-reads
 
 weight-n512r12-requires : tie.Need-weight-n512r12-requires
 weight-n512r12-requires c κs = search needs

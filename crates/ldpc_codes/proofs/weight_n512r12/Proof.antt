@@ -7,9 +7,6 @@ use Rattle.ldpc_codes.proofs.Laid.{laid-judged}
 use borrow.Author.Needs.{needs}
 use Rattle.ldpc_codes.proofs.weight_n512r12.Statement.{statement}
 use Rattle.ldpc_codes.proofs.weight_n512r12.Tie as tie
-use Rattle.ldpc_codes.proofs.weight_n512r12.Reads as reads
-use Rattle.ldpc_codes.proofs.weight_n512r12.Lts as lts
-use Rattle.ldpc_codes.proofs.weight_over.Reads as weight-over-reads
 
 slice-aggregate-weight-over : tie.Need-slice-aggregate-weight-over
 slice-aggregate-weight-over c = search needs

@@ -5,9 +5,6 @@ use Rattle.refusal.specs.Outcome.{accepted}
 use borrow.Author.Needs.{needs}
 use Rattle.ldpc_codes.proofs.weight_over.Statement.{statement}
 use Rattle.ldpc_codes.proofs.weight_over.Tie as tie
-use Rattle.ldpc_codes.proofs.weight_over.Reads as reads
-use Rattle.ldpc_codes.proofs.weight_over.Lts as lts
-use Rattle.stairs.proofs.counted.Reads as counted-reads
 
 returns : tie.Need-returns
 returns c = simp (lt-ltb _ _ (c .if1 .taken))

@@ -67,7 +67,8 @@ record Turn (l : Loop) : Type 0 where
 
 -- what is left to write, with the line of this turn first
 left-here : (c : Inside) → let l = c .before in let j = l .loop .j in l .loop .j < many l
-    → Left (start l .args .out .now) (start l .args .at) (linesFrom (line l) 0 (many l)) (l .loop .out) (l .loop .next) (line l j ++ linesFrom (line l) (j + 1) (many l - (j + 1)))
+    → Left (start l .args .out .now) (start l .args .at) (linesFrom (line l) 0 (many l)) (l .loop .out) (l .loop .next)
+    (line l j ++ linesFrom (line l) (j + 1) (many l - (j + 1)))
 left-here c h = let l = c .before in rw (lines-more (line l) (l .loop .j) (many l) h) at (l .loop .inv .2)
 
 place-at : (c : Inside) → c .before .loop .j < many (c .before)
@@ -83,7 +84,8 @@ turn c =
     record {
       place = place-at c;
       front = omega (arith, l .loop .inv .1, p .1 .1 .0 .1, bits, place-fits (l .loop .j) (many l) k (place-at c));
-      fits = omega (arith, left .end, left .size, room l, length-append (line l (l .loop .j)) (linesFrom (line l) (l .loop .j + 1) (many l - (l .loop .j + 1))));
+      fits =
+          omega (arith, left .end, left .size, room l, length-append (line l (l .loop .j)) (linesFrom (line l) (l .loop .j + 1) (many l - (l .loop .j + 1))));
     }
 
 -- ---- the needs

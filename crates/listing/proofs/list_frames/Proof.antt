@@ -176,7 +176,8 @@ write-frames-requires c κs =
     let good = known k in
     let head = wellformed (input d) (p .0) .head in
     let n : N k ≡ length (pairsOf (pairNumbers (input d))) = good .frames ∙ sym (good .many) in
-    let bytes : size k ≡ length (pairsOf (pairNumbers (input d))) * sizeK (codeOf (input d)) = good .bits ∙ ap (λ (i : ℕ). i * sizeK (codeOf (input d))) (sym (good .many)) in
+    let bytes : size k ≡ length (pairsOf (pairNumbers (input d))) * sizeK (codeOf (input d)) =
+    good .bits ∙ ap (λ (i : ℕ). i * sizeK (codeOf (input d))) (sym (good .many)) in
     rw (p .1 .0, pairs-same k) (
       (head, sym (good .many)),
       (

@@ -5,11 +5,6 @@ use lib.ListN.{length}
 use borrow.Author.Needs.{needs}
 use Rattle.make_tables.proofs.fill_checks.Statement.{statement}
 use Rattle.make_tables.proofs.fill_checks.Tie as tie
-use Rattle.make_tables.proofs.fill_checks.Reads as reads
-use Rattle.make_tables.proofs.fill_checks.Lts as lts
-use Rattle.make_tables.proofs.parity_entries.Reads as parity-entries-reads
-use Rattle.make_tables.proofs.put.Reads as put-reads
-use Rattle.make_tables.proofs.taps.Reads as taps-reads
 
 abbrev Inv-loop : tie.InvT-loop
 Inv-loop rows k m starts₀ flat₀ at₀ r₀ starts flat at r = (r ≤ m) × (length starts ≡ length starts₀) × (length flat ≡ length flat₀)

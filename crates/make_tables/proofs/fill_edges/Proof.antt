@@ -5,10 +5,6 @@ use lib.ListN.{length}
 use borrow.Author.Needs.{needs}
 use Rattle.make_tables.proofs.fill_edges.Statement.{statement}
 use Rattle.make_tables.proofs.fill_edges.Tie as tie
-use Rattle.make_tables.proofs.fill_edges.Reads as reads
-use Rattle.make_tables.proofs.fill_edges.Lts as lts
-use Rattle.make_tables.proofs.places.Reads as places-reads
-use Rattle.make_tables.proofs.put.Reads as put-reads
 
 abbrev Inv-loop : tie.InvT-loop
 Inv-loop flat n starts₀ edges₀ at₀ p₀ starts edges at p = (p ≤ n) × (length starts ≡ length starts₀) × (length edges ≡ length edges₀)

@@ -5,9 +5,6 @@ use lib.ListN.{length}
 use borrow.Author.Needs.{needs}
 use Rattle.make_tables.proofs.fill_places.Statement.{statement}
 use Rattle.make_tables.proofs.fill_places.Tie as tie
-use Rattle.make_tables.proofs.fill_places.Reads as reads
-use Rattle.make_tables.proofs.fill_places.Lts as lts
-use Rattle.make_tables.proofs.slot_places.Reads as slot-places-reads
 
 abbrev Inv-loop : tie.InvT-loop
 Inv-loop table width k m edges₀ at₀ p₀ edges at p = (p ≤ k) × (length edges ≡ length edges₀)

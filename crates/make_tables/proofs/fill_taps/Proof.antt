@@ -5,9 +5,6 @@ use lib.ListN.{length}
 use borrow.Author.Needs.{needs}
 use Rattle.make_tables.proofs.fill_taps.Statement.{statement}
 use Rattle.make_tables.proofs.fill_taps.Tie as tie
-use Rattle.make_tables.proofs.fill_taps.Reads as reads
-use Rattle.make_tables.proofs.fill_taps.Lts as lts
-use Rattle.make_tables.proofs.taps.Reads as taps-reads
 
 abbrev Inv-loop : tie.InvT-loop
 Inv-loop rows k m table₀ at₀ r₀ table at r = (r ≤ m) × (length table ≡ length table₀)

@@ -5,9 +5,6 @@ use lib.ListN.{length}
 use borrow.Author.Needs.{needs}
 use Rattle.make_tables.proofs.places.Statement.{statement}
 use Rattle.make_tables.proofs.places.Tie as tie
-use Rattle.make_tables.proofs.places.Reads as reads
-use Rattle.make_tables.proofs.places.Lts as lts
-use Rattle.make_tables.proofs.put_if.Reads as put-if-reads
 
 abbrev Inv-loop : tie.InvT-loop
 Inv-loop flat p edges₀ from at₀ e₀ edges at e = (e ≤ length flat) × (length edges ≡ length edges₀)

@@ -4,11 +4,6 @@ use lib.ListN.{length}
 use borrow.Author.Needs.{needs}
 use Rattle.make_tables.proofs.print_table.Statement.{statement}
 use Rattle.make_tables.proofs.print_table.Tie as tie
-use Rattle.make_tables.proofs.print_table.Reads as reads
-use Rattle.make_tables.proofs.print_table.Lts as lts
-use Rattle.io.proofs.print_decimal.Reads as print-decimal-reads
-use Rattle.io.proofs.write_all.Reads as write-all-reads
-use Rattle.make_tables.proofs.wider.Reads as wider-reads
 
 abbrev Inv-loop : tie.InvT-loop
 Inv-loop head table i₀ t5 t6 t7 i = (i ≤ length table)

@@ -7,9 +7,6 @@ use lib.ListN.{length}
 use borrow.Author.Needs.{needs}
 use Rattle.make_tables.proofs.slot_places.Statement.{statement}
 use Rattle.make_tables.proofs.slot_places.Tie as tie
-use Rattle.make_tables.proofs.slot_places.Reads as reads
-use Rattle.make_tables.proofs.slot_places.Lts as lts
-use Rattle.make_tables.proofs.put_if.Reads as put-if-reads
 
 abbrev Inv-loop : tie.InvT-loop
 Inv-loop table width m p edges₀ from at₀ e₀ edges at e = (e ≤ length table) × (length edges ≡ length edges₀)

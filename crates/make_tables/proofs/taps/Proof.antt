@@ -5,10 +5,6 @@ use lib.ListN.{length}
 use borrow.Author.Needs.{needs}
 use Rattle.make_tables.proofs.taps.Statement.{statement}
 use Rattle.make_tables.proofs.taps.Tie as tie
-use Rattle.make_tables.proofs.taps.Reads as reads
-use Rattle.make_tables.proofs.taps.Lts as lts
-use Rattle.make_tables.proofs.holds.Reads as holds-reads
-use Rattle.make_tables.proofs.put_if.Reads as put-if-reads
 
 abbrev Inv-loop : tie.InvT-loop
 Inv-loop rows k r flat₀ from at₀ c₀ flat at c = (c ≤ k) × (length flat ≡ length flat₀)

@@ -87,7 +87,15 @@ returns-6 c =
     let third = numbers fourth in
     let second = third .before .before in
     turned-down (call (start third)) 9
-    (simp (le-ltb _ _ (second .before .if1 .left), le-ltb _ _ (second .if2 .left), own-rule third, eq-eqb _ _ (values-right fourth), eq-eqb _ _ (word-right fifth), lt-ltb _ _ (c .if6 .taken)))
+    (simp (
+      le-ltb _ _ (second .before .if1 .left),
+      le-ltb _ _ (second .if2 .left),
+      own-rule third,
+      eq-eqb _ _ (values-right fourth),
+      eq-eqb _ _
+          (word-right fifth),
+      lt-ltb _ _ (c .if6 .taken),
+    ))
 
 find-reason-requires : tie.Need-find-reason-requires
 find-reason-requires c κs =
@@ -110,7 +118,9 @@ returns-7 c =
     let fourth = fifth .before in
     let third = numbers fourth in
     let second = third .before .before in
-    let right = all-right (call (start third)) (second .before .if1 .left) (second .if2 .left) (own-rule third) (values-right fourth) (word-right fifth) (sixth .if6 .left) in
+    let right =
+    all-right (call (start third)) (second .before .if1 .left) (second .if2 .left) (own-rule third) (values-right fourth) (word-right fifth)
+    (sixth .if6 .left) in
     let e = done .find-reason .ensures in
     explained (call (start third)) right _ _ _ (e .0) (e .1 .0) (e .1 .1)
 

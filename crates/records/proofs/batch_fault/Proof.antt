@@ -119,7 +119,9 @@ module _ {M : Type 1} (𝓤 : URA M) (H : Heap 𝓤) (A : Atoms 𝓤) (W : Given
         ∷ pass-slice (pair .row) pairs (length ys) (ys-fit .0) ys ∷ hand (datum room r room-is) ∷ []
 
     abbrev to-head : List Arg
-    to-head = plainly (datum (nat w32) code code-is) ∷ plainly (datum (nat w32) rule rule-is) ∷ plainly (size (length ys) (ys-fit .0)) ∷ plainly (datum room r room-is) ∷ []
+    to-head =
+        plainly (datum (nat w32) code code-is) ∷ plainly (datum (nat w32) rule rule-is) ∷ plainly (size (length ys) (ys-fit .0))
+        ∷ plainly (datum room r room-is) ∷ []
 
     abbrev to-next : (n : ℕ) → n < 2 ^ 64 → (t : Turn n values ys) → Is (pair .row) (this-one t) (pair .val (this-one t) ∷ []) → List Arg
     to-next n fits t g = plainly (datum seen (t .seen-so) (t .is)) ∷ plainly (size n fits) ∷ plainly (size values values-fit)
@@ -150,7 +152,8 @@ module _ {M : Type 1} (𝓤 : URA M) (H : Heap 𝓤) (A : Atoms 𝓤) (W : Given
         calls W (fmOf 𝓤 H (W .laws) 𝓣) head.ended (head.clauses 𝓤 H A mem run) known-head (bound to-head) tt (hands 𝓤 H A W to-head) (id⊢ 𝓤 (emp 𝓤))
         (λ s _. statusOf s ≡ verdict (headRefusals code rule (length ys) r)) (λ s _. id⊢ 𝓤 _) ! (args ! (loc 1 ∷ loc 2 ∷ loc 11 ∷ loc 5 ∷ []) refl) (λ v s _ h.
         stores-plain ! status s (h .0) tt refl $
-        calls W (fmOf 𝓤 H (W .laws) 𝓣) down-of.ended (down-of.clauses 𝓤 H A mem run) known-down (bound (plainly (datum status s (meant status s v (h .0))) ∷ [])) tt
+        calls W (fmOf 𝓤 H (W .laws) 𝓣) down-of.ended (down-of.clauses 𝓤 H A mem run) known-down
+        (bound (plainly (datum status s (meant status s v (h .0))) ∷ [])) tt
         (hands 𝓤 H A W (plainly (datum status s (meant status s v (h .0))) ∷ [])) (id⊢ 𝓤 (emp 𝓤))
         (λ y _. y ≡ isRefused (statusOf s)) (λ y _. id⊢ 𝓤 _) ! (args ! (loc 6 ∷ []) refl) (λ w y _ d. elim (tells (statusOf s) y (d .1)) [
           | down k is p ↦
@@ -161,7 +164,8 @@ module _ {M : Type 1} (𝓤 : URA M) (H : Heap 𝓤) (A : Atoms 𝓤) (W : Given
           | good is p ↦
               stores ! (ap only (d .0) ∙ ap vbool p) tt (tt, tt) $ goes-past ! (var ! refl) $
               -- N, and before the first record
-              calls W (fmOf 𝓤 H (W .laws) 𝓣) values-of.ended (values-of.clauses 𝓤 H A mem run) known-values (bound (plainly (datum (nat w32) code code-is) ∷ [])) tt
+              calls W (fmOf 𝓤 H (W .laws) 𝓣) values-of.ended (values-of.clauses 𝓤 H A mem run) known-values
+              (bound (plainly (datum (nat w32) code code-is) ∷ [])) tt
               (hands 𝓤 H A W (plainly (datum (nat w32) code code-is) ∷ [])) (id⊢ 𝓤 (emp 𝓤))
               (λ n _. n ≡ sizeN code) (λ n _. id⊢ 𝓤 _) ! (args ! (loc 1 ∷ []) refl) (λ x n _ f.
               stores-plain ! (nat w64) n (f .0) tt refl $
@@ -184,14 +188,17 @@ module _ {M : Type 1} (𝓤 : URA M) (H : Heap 𝓤) (A : Atoms 𝓤) (W : Given
                     sets ! (of-opd ! (count 4 refl refl !)) tt (tt, record { fits = ys-fit .0 }) $
                     sets-as ! (bin ! (var ! refl) (var ! refl) tt) (ap vbool (le-ltb (t .i) (length ys) (omega (arith, q)))) tt (tt, tt) $
                     leaves-loop ! (var ! refl) $ exec ! (𝓣 .C) (𝓣 .Λ) (spots (code-of.function .locals) bs) code-of.Mir.t-9
-                    (atRet (spots (code-of.function .locals) bs) (Post 𝓤 H A this.ended (stays params) (this.clauses 𝓤 H A mem run) (bound (own-args mine)) tt)) $
+                    (atRet (spots (code-of.function .locals) bs)
+                    (Post 𝓤 H A this.ended (stays params) (this.clauses 𝓤 H A mem run) (bound (own-args mine)) tt)) $
                     calls W (fmOf 𝓤 H (W .laws) 𝓣) all.ended (all.clauses 𝓤 H A mem run) known-all (bound (plainly (datum seen (t .seen-so) (t .is)) ∷ [])) tt
                     (hands 𝓤 H A W (plainly (datum seen (t .seen-so) (t .is)) ∷ [])) (id⊢ 𝓤 (emp 𝓤))
                     (λ z _. statusOf z ≡ seenAll (seenOf (t .seen-so))) (λ z _. id⊢ 𝓤 _) ! (args ! (loc 8 ∷ []) refl) (λ u z _ e.
                     stores-plain ! status z (e .0) tt refl $ returns-all ! refl tt $ scatters ! mine lasts $
-                    by ! (end (status .val z) z lasts (haves 𝓤 H A params (bound (own-args mine) .0) (bound (own-args mine) .3) lasts (bound (own-args mine) .4))
+                    by ! (end (status .val z) z lasts
+                    (haves 𝓤 H A params (bound (own-args mine) .0) (bound (own-args mine) .3) lasts (bound (own-args mine) .4))
                     (status .makes 𝓤 H A W z _ (meant status z u (e .0))) lasts
-                    (factI 𝓤 _ (emp 𝓤) (by-pairs code rule values ys r (h .1) is (f .1) (e .1 ∙ all-checked n values ys (t .i) (seenOf (t .seen-so)) q (t .rest))))))
+                    (factI 𝓤 _ (emp 𝓤)
+                    (by-pairs code rule values ys r (h .1) is (f .1) (e .1 ∙ all-checked n values ys (t .i) (seenOf (t .seen-so)) q (t .rest))))))
               ]) (begun n))
         ]))))
 

@@ -82,10 +82,13 @@ module _ {M : Type 1} (𝓤 : URA M) (H : Heap 𝓤) (A : Atoms 𝓤) (W : Given
     walk : Walk W this.ended (stays params) (this.clauses 𝓤 H A mem run) 𝓣 code-of.function (bound (own-args own)) tt
     walk = walking (λ end. begins ! (typed 𝓤 H A W (own-args own)) (λ bs. gathers ! own $
         -- how many places are lent
-        sets ! (of-opd ! (count 7 refl refl !)) tt (tt, record { fits = sizes .bits }) $ sets ! (of-opd ! (count 8 refl refl !)) tt (tt, record { fits = sizes .counts }) $
-        sets ! (of-opd ! (count 9 refl refl !)) tt (tt, record { fits = sizes .rounds }) $ sets ! (of-opd ! (count 10 refl refl !)) tt (tt, record { fits = sizes .firsts }) $
+        sets ! (of-opd ! (count 7 refl refl !)) tt (tt, record { fits = sizes .bits }) $ sets ! (of-opd ! (count 8 refl refl !)) tt
+        (tt, record { fits = sizes .counts }) $
+        sets ! (of-opd ! (count 9 refl refl !)) tt (tt, record { fits = sizes .rounds }) $ sets ! (of-opd ! (count 10 refl refl !)) tt
+        (tt, record { fits = sizes .firsts }) $
         sets ! (of-opd ! (count 11 refl refl !)) tt (tt, record { fits = sizes .work }) $
-        sets ! (agg ! (and-then ! (var ! refl) (and-then ! (var ! refl) (and-then ! (var ! refl) (and-then ! (var ! refl) (and-then ! (var ! refl) (no-more !))))))) tt
+        sets ! (agg !
+        (and-then ! (var ! refl) (and-then ! (var ! refl) (and-then ! (var ! refl) (and-then ! (var ! refl) (and-then ! (var ! refl) (no-more !))))))) tt
         (room .typed 𝓤 H A W (roomOf m) room-is) $
         sets ! (of-opd ! (count 5 refl refl !)) tt (tt, record { fits = sizes .values }) $
         -- the check
@@ -94,12 +97,14 @@ module _ {M : Type 1} (𝓤 : URA M) (H : Heap 𝓤) (A : Atoms 𝓤) (W : Given
         (takes (λ ν. bound (lent-args to-fault ν)) (λ ν. tt) (λ ν. hands 𝓤 H A W (lent-args to-fault ν)) (λ ν ws. ws) (λ ν. refl) (λ ν ws. refl))
         (λ ν. id⊢ 𝓤 (emp 𝓤)) (λ ν s _. statusOf s ≡ verdict (refusals B)) (λ ν s _. id⊢ 𝓤 _)
         ! (λ ν. args ! (loc 1 ∷ loc 2 ∷ loc 14 ∷ loc 6 ∷ loc 12 ∷ []) refl) (λ ν v s _ e _. stores-plain ! status s (e .0) tt refl $
-        calls W (fmOf 𝓤 H (W .laws) 𝓣) down-of.ended (down-of.clauses 𝓤 H A mem run) known-down (bound (plainly (datum status s (meant status s v (e .0))) ∷ [])) tt
+        calls W (fmOf 𝓤 H (W .laws) 𝓣) down-of.ended (down-of.clauses 𝓤 H A mem run) known-down
+        (bound (plainly (datum status s (meant status s v (e .0))) ∷ [])) tt
         (hands 𝓤 H A W (plainly (datum status s (meant status s v (e .0))) ∷ [])) (id⊢ 𝓤 (emp 𝓤))
         (λ y _. y ≡ isRefused (statusOf s)) (λ y _. id⊢ 𝓤 _) ! (args ! (loc 13 ∷ []) refl) (λ u y _ d. elim (tells (statusOf s) y (d .1)) [
           | down k is p ↦
               stores ! (ap only (d .0) ∙ ap vbool p) tt (tt, tt) $
-              returns-early ! (var ! refl) refl (status .typed 𝓤 H A W s (meant status s v (e .0))) tt tt $ move ! (1 ∷ 0 ∷ []) $ scatters ! own (all-lasts (lasts-of m)) $
+              returns-early ! (var ! refl) refl (status .typed 𝓤 H A W s (meant status s v (e .0))) tt tt $ move ! (1 ∷ 0 ∷ []) $ scatters ! own
+              (all-lasts (lasts-of m)) $
               by ! (end (status .val s) s (all-lasts (lasts-of m))
               (haves 𝓤 H A params (bound (own-args own) .0) (bound (own-args own) .3) (all-lasts (lasts-of m)) (bound (own-args own) .4))
               (status .makes 𝓤 H A W s _ (meant status s v (e .0))) (tt, (tt, (tt, (tt, (tt, (tt, (refl, (refl, (refl, (refl, (refl, tt)))))))))))
@@ -126,7 +131,8 @@ module _ {M : Type 1} (𝓤 : URA M) (H : Heap 𝓤) (A : Atoms 𝓤) (W : Given
   meets = meets-by W this.ended (stays params) (this.clauses 𝓤 H A mem run) 𝓣 code-of.function (all-spell params) (all-tell params) (all-go 𝓤 H A W params)
       (λ κs a. Unit {0}) (λ κs a g. factI 𝓤 _ (emp 𝓤) tt)
       (λ κs qs _ a g are ok. walk (numbers-of (a .0) (a .1 .0) (a .1 .1 .0) (a .1 .1 .1 .0) (are .0) (are .1 .0) (are .1 .1 .0) (are .1 .1 .1 .0))
-      (handles (a .1 .1 .1 .1) κs qs) (now (a .1 .1 .1 .1 .0)) (now (a .1 .1 .1 .1 .1 .0)) (contents (a .1 .1 .1 .1)) (sizes-of (a .1 .1 .1 .1) (are .1 .1 .1 .1)))
+      (handles (a .1 .1 .1 .1) κs qs) (now (a .1 .1 .1 .1 .0)) (now (a .1 .1 .1 .1 .1 .0)) (contents (a .1 .1 .1 .1))
+      (sizes-of (a .1 .1 .1 .1) (are .1 .1 .1 .1)))
 
 pub decode-pairs-spec : {M : Type 1} → stated.statement M
 unfolding code-of.routine tablesOf

@@ -52,7 +52,23 @@ use Rattle.batch.proofs.clear_area.Met as clear-thm
 use Rattle.records.specs.declared.Pair.{Pair}
 use Rattle.records.specs.Fields.{pairOf, pairsOf}
 use Rattle.records.proofs.Types.{pair, none}
-use Rattle.records.proofs.Lists.{params, Numbers, Handles, Sizes, handed, outputs, numbered, mine, left, lasts-of, all-lasts, numbers-of, handles, contents, sizes-of}
+use Rattle.records.proofs.Lists.{
+  params,
+  Numbers,
+  Handles,
+  Sizes,
+  handed,
+  outputs,
+  numbered,
+  mine,
+  left,
+  lasts-of,
+  all-lasts,
+  numbers-of,
+  handles,
+  contents,
+  sizes-of,
+}
 use Rattle.records.proofs.decode_record as place
 use Rattle.records.proofs.decode_record.Symbol as place-def
 use Rattle.records.proofs.decode_record.Symbol.{name as #records·decode-record}
@@ -123,7 +139,9 @@ module _ {M : Type 1} (𝓤 : URA M) (H : Heap 𝓤) (A : Atoms 𝓤) (W : Given
 
     -- what is held at a turn: the locals and the lists
     abbrev At : Blocks (code-of.function .locals) → Turn B → List (Item 𝓤)
-    At bs t = ‵ (frame (spots (code-of.function .locals) bs) (empty ∷ full (vint w32 (n .code)) ∷ full (vint w32 (n .rule)) ∷ full (vint w16 (n .limit)) ∷ full (vfloat binary32 (n .scale))
+    At bs t =
+        ‵ (frame (spots (code-of.function .locals) bs)
+        (empty ∷ full (vint w32 (n .code)) ∷ full (vint w32 (n .rule)) ∷ full (vint w16 (n .limit)) ∷ full (vfloat binary32 (n .scale))
         ∷ full (counted (h .values) (length vs)) ∷ full (counted (h .pairs) (length ys)) ∷ full (counted (h .bits) (length (m .bits)))
         ∷ full (counted (h .counts) (length (m .counts))) ∷ full (counted (h .rounds) (length (m .rounds))) ∷ full (counted (h .firsts) (length (m .firsts)))
         ∷ full (counted (h .work) (length (m .work))) ∷ full (vint w64 (t .j)) ∷ replicate 19 empty)) ∷ held 𝓤 (own (t .memory))
@@ -139,7 +157,8 @@ module _ {M : Type 1} (𝓤 : URA M) (H : Heap 𝓤) (A : Atoms 𝓤) (W : Given
     unfolding afterTurn
     walk = walking (λ end. begins ! (typed 𝓤 H A W (own-args (own m))) (λ bs. gathers ! (own m) $
         sets ! (of-opd ! (lit ! tt)) tt (tt, record { fits = lit< tt }) $
-        first ! $ blocks ! $ loops ! 𝓣 (λ x y. left-over x < left-over y) (InvImage·wf left-over (Nat·lt-wfRel .wf)) (At bs) (λ t. elim (decLt (t .j) (length ys)) [
+        first ! $ blocks ! $ loops ! 𝓣 (λ x y. left-over x < left-over y) (InvImage·wf left-over (Nat·lt-wfRel .wf)) (At bs)
+        (λ t. elim (decLt (t .j) (length ys)) [
           | yes p ↦
               sets ! (of-opd ! (count 6 refl refl !)) tt (tt, record { fits = sizes .pairs .0 }) $
               sets-as ! (bin ! (var ! refl) (var ! refl) tt) (ap vbool (lt-ltb (t .j) (length ys) p)) tt (tt, tt) $ goes-on ! (var ! refl) $
@@ -149,7 +168,8 @@ module _ {M : Type 1} (𝓤 : URA M) (H : Heap 𝓤) (A : Atoms 𝓤) (W : Given
               passes-on ! refl tt tt (sizes .bits) $ passes-on ! refl tt tt (sizes .counts) $ passes-on ! refl tt tt (sizes .rounds) $
               passes-on ! refl tt tt (sizes .firsts) $ passes-on ! refl tt tt (sizes .work) $ move ! (0 ∷ 2 ∷ 3 ∷ 4 ∷ 5 ∷ 6 ∷ 7 ∷ []) $
               calls-lent W (fmOf 𝓤 H (W .laws) 𝓣) place.ended (place.clauses 𝓤 H A mem run) known-place (to-place t p g)
-              (takes (λ ν. bound (lent-args (to-place t p g) ν)) (λ ν. tt) (λ ν. hands 𝓤 H A W (lent-args (to-place t p g) ν)) (λ ν ws. ws) (λ ν. refl) (λ ν ws. refl))
+              (takes (λ ν. bound (lent-args (to-place t p g) ν)) (λ ν. tt) (λ ν. hands 𝓤 H A W (lent-args (to-place t p g) ν)) (λ ν ws. ws) (λ ν. refl)
+              (λ ν ws. refl))
               (λ ν. factI 𝓤 _ (emp 𝓤) (ready n vs ys m fit t p))
               (λ ν _ ws. left (ws .1 .1 .1 .1 .1 .1 .1)
               ≡ frame-placed n vs ys m t (getD ys (t .j) none .offset)) (λ ν _ ws. id⊢ 𝓤 _)
@@ -161,13 +181,15 @@ module _ {M : Type 1} (𝓤 : URA M) (H : Heap 𝓤) (A : Atoms 𝓤) (W : Given
               (one-more n vs ys m fit t p (left (ws .1 .1 .1 .1 .1 .1 .1)) (e .1) (same .1 .0)) (omega (arith, there n vs ys m fit t p))))
           | no p ↦
               sets ! (of-opd ! (count 6 refl refl !)) tt (tt, record { fits = sizes .pairs .0 }) $
-              sets-as ! (bin ! (var ! refl) (var ! refl) tt) (ap vbool (le-ltb (t .j) (length ys) (omega (arith, p)))) tt (tt, tt) $ leaves-loop ! (var ! refl) $
+              sets-as ! (bin ! (var ! refl) (var ! refl) tt) (ap vbool (le-ltb (t .j) (length ys) (omega (arith, p)))) tt (tt, tt) $ leaves-loop !
+              (var ! refl) $
               exec ! (𝓣 .C) (𝓣 .Λ) (spots (code-of.function .locals) bs) code-of.Mir.t-3
               (atRet (spots (code-of.function .locals) bs) (Post 𝓤 H A this.ended (stays params) (this.clauses 𝓤 H A mem run) (bound (own-args (own m))) tt)) $
               -- the work area is cleared
               passes-on ! refl tt tt (sizes .work) $ move ! (0 ∷ 7 ∷ []) $
               calls-lent W (fmOf 𝓤 H (W .laws) 𝓣) clear.ended (clear.clauses 𝓤 H A mem run) known-clear (to-clear (t .memory))
-              (takes (λ ν. bound (lent-args (to-clear (t .memory)) ν)) (λ ν. tt) (λ ν. hands 𝓤 H A W (lent-args (to-clear (t .memory)) ν)) (λ ν ws. ws) (λ ν. refl) (λ ν ws. refl))
+              (takes (λ ν. bound (lent-args (to-clear (t .memory)) ν)) (λ ν. tt) (λ ν. hands 𝓤 H A W (lent-args (to-clear (t .memory)) ν)) (λ ν ws. ws)
+              (λ ν. refl) (λ ν ws. refl))
               (λ ν. factI 𝓤 _ (emp 𝓤) (omega (arith, fit .area, t .going .wide))) (λ ν _ ws. ws .0 ≡ cleared (t .memory .work)) (λ ν _ ws. id⊢ 𝓤 _)
               ! (λ ν. args ! (loc 31 ∷ []) refl) (λ ν v _ ws e same. stores-plain ! nothing tt (e .0) tt refl $
               sets ! (of-opd ! (unit-lit !)) tt (tt, tt) $ returns-all ! refl tt $ move ! (1 ∷ 2 ∷ 3 ∷ 4 ∷ 5 ∷ 6 ∷ 0 ∷ []) $
@@ -207,10 +229,12 @@ module _ {M : Type 1} (𝓤 : URA M) (H : Heap 𝓤) (A : Atoms 𝓤) (W : Given
 
   meets : Meets 𝓤 H A this.signature (WpFn 𝓤 H (𝓣 .C) (𝓣 .Λ) code-of.function) (this.spec 𝓤 H A mem run)
   meets = meets-by W this.ended (stays params) (this.clauses 𝓤 H A mem run) 𝓣 code-of.function (all-spell params) (all-tell params) (all-go 𝓤 H A W params)
-      (λ κs a. Fitting (batch (a .0) (a .1 .0) (a .1 .1 .0) (a .1 .1 .1 .0) (now (a .1 .1 .1 .1 .0)) (pairsOf (now (a .1 .1 .1 .1 .1 .0))) (contents (a .1 .1 .1 .1))))
+      (λ κs a. Fitting
+      (batch (a .0) (a .1 .0) (a .1 .1 .0) (a .1 .1 .1 .0) (now (a .1 .1 .1 .1 .0)) (pairsOf (now (a .1 .1 .1 .1 .1 .0))) (contents (a .1 .1 .1 .1))))
       (λ κs a g. id⊢ 𝓤 _)
       (λ κs qs _ a g are ok. walk (numbers-of (a .0) (a .1 .0) (a .1 .1 .0) (a .1 .1 .1 .0) (are .0) (are .1 .0) (are .1 .1 .0) (are .1 .1 .1 .0))
-      (handles (a .1 .1 .1 .1) κs qs) (now (a .1 .1 .1 .1 .0)) (now (a .1 .1 .1 .1 .1 .0)) (contents (a .1 .1 .1 .1)) (sizes-of (a .1 .1 .1 .1) (are .1 .1 .1 .1)) ok)
+      (handles (a .1 .1 .1 .1) κs qs) (now (a .1 .1 .1 .1 .0)) (now (a .1 .1 .1 .1 .1 .0)) (contents (a .1 .1 .1 .1))
+      (sizes-of (a .1 .1 .1 .1) (are .1 .1 .1 .1)) ok)
 
 pub decode-records-spec : {M : Type 1} → stated.statement M
 unfolding code-of.routine tablesOf

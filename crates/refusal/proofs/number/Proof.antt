@@ -4,8 +4,6 @@ use Rattle.refusal.specs.Numbers.{numberOf}
 use borrow.Author.Needs.{needs}
 use Rattle.refusal.proofs.number.Statement.{statement}
 use Rattle.refusal.proofs.number.Tie as tie
-use Rattle.refusal.proofs.number.Reads as reads
-use Rattle.refusal.proofs.number.Lts as lts
 
 enum-told : tie.Need-enum-told
 enum-told c = search needs

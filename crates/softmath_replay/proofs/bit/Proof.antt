@@ -29,7 +29,8 @@ slice-aggregate-bit-step c = sym (length-take-le _ _ (omega arith))
 
 bit-step-requires : tie.Need-bit-step-requires
 unfolding edges
-bit-step-requires c κs = within _ _ (c .before .before .before .before .before .before .before .pre .0) (c .before .before .before .before .before .before .before .pre .1)
+bit-step-requires c κs =
+    within _ _ (c .before .before .before .before .before .before .before .pre .0) (c .before .before .before .before .before .before .before .pre .1)
 
 cast-print-hex : tie.Need-cast-print-hex
 cast-print-hex c = search needs

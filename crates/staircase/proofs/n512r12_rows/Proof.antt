@@ -2,8 +2,6 @@
 use Rattle.staircase.proofs.Rows.{rows0, rows-right0}
 use Rattle.staircase.proofs.n512r12_rows.Statement.{statement}
 use Rattle.staircase.proofs.n512r12_rows.Tie as tie
-use Rattle.staircase.proofs.n512r12_rows.Reads as reads
-use Rattle.staircase.proofs.n512r12_rows.Lts as lts
 
 returns : tie.Need-returns
 unfolding rows0

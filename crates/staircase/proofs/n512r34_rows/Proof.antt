@@ -2,8 +2,6 @@
 use Rattle.staircase.proofs.Rows.{rows2, rows-right2}
 use Rattle.staircase.proofs.n512r34_rows.Statement.{statement}
 use Rattle.staircase.proofs.n512r34_rows.Tie as tie
-use Rattle.staircase.proofs.n512r34_rows.Reads as reads
-use Rattle.staircase.proofs.n512r34_rows.Lts as lts
 
 returns : tie.Need-returns
 unfolding rows2

@@ -2,8 +2,6 @@
 use Rattle.staircase.proofs.Rows.{rows1, rows-right1}
 use Rattle.staircase.proofs.n576r23_rows.Statement.{statement}
 use Rattle.staircase.proofs.n576r23_rows.Tie as tie
-use Rattle.staircase.proofs.n576r23_rows.Reads as reads
-use Rattle.staircase.proofs.n576r23_rows.Lts as lts
 
 returns : tie.Need-returns
 unfolding rows1

@@ -3,12 +3,6 @@ use mathlib.Core.Path.{_≡_, refl}
 use borrow.Author.Needs.{needs}
 use Rattle.staircase_replay.proofs.main.Statement.{statement}
 use Rattle.staircase_replay.proofs.main.Tie as tie
-use Rattle.staircase_replay.proofs.main.Reads as reads
-use Rattle.staircase_replay.proofs.main.Lts as lts
-use Rattle.staircase_replay.proofs.print_checks.Reads as print-checks-reads
-use Rattle.staircase_replay.proofs.print_columns.Reads as print-columns-reads
-use Rattle.staircase_replay.proofs.print_edges.Reads as print-edges-reads
-use Rattle.staircase_replay.proofs.replay_one.Reads as replay-one-reads
 
 abbrev Inv-loop : tie.InvT-loop
 Inv-loop left₀ left = left ≡ left

@@ -4,11 +4,6 @@ use lib.ListN.{length}
 use borrow.Author.Needs.{needs}
 use Rattle.staircase_replay.proofs.print_bytes.Statement.{statement}
 use Rattle.staircase_replay.proofs.print_bytes.Tie as tie
-use Rattle.staircase_replay.proofs.print_bytes.Reads as reads
-use Rattle.staircase_replay.proofs.print_bytes.Lts as lts
-use Rattle.io.proofs.print_hex.Reads as print-hex-reads
-use Rattle.io.proofs.write_all.Reads as write-all-reads
-use Rattle.staircase_replay.proofs.wide.Reads as wide-reads
 
 abbrev Inv-loop : tie.InvT-loop
 Inv-loop bytes i₀ t4 i = i ≤ length bytes

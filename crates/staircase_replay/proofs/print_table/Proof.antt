@@ -4,11 +4,6 @@ use lib.ListN.{length}
 use borrow.Author.Needs.{needs}
 use Rattle.staircase_replay.proofs.print_table.Statement.{statement}
 use Rattle.staircase_replay.proofs.print_table.Tie as tie
-use Rattle.staircase_replay.proofs.print_table.Reads as reads
-use Rattle.staircase_replay.proofs.print_table.Lts as lts
-use Rattle.io.proofs.print_hex.Reads as print-hex-reads
-use Rattle.io.proofs.write_all.Reads as write-all-reads
-use Rattle.staircase_replay.proofs.wider.Reads as wider-reads
 
 abbrev Inv-loop : tie.InvT-loop
 Inv-loop table i₀ t4 i = i ≤ length table

@@ -2,9 +2,6 @@
 use borrow.Author.Needs.{needs}
 use Rattle.stairs.proofs.count.Statement.{statement}
 use Rattle.stairs.proofs.count.Tie as tie
-use Rattle.stairs.proofs.count.Reads as reads
-use Rattle.stairs.proofs.count.Lts as lts
-use Rattle.stairs.proofs.count_rows.Reads as count-rows-reads
 
 count-rows-requires : tie.Need-count-rows-requires
 count-rows-requires c κs = rw (c .if1 .taken) at (c .before .before .before .pre)

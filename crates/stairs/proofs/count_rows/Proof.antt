@@ -1,4 +1,5 @@
--- `stairs::count_rows` meets its contract. The invariant: what is counted so far, with what the rows that are left count, is the whole; the bit before is carried along. Assumes nothing.
+-- `stairs::count_rows` meets its contract. The invariant: what is counted so far, with what the rows that are left count, is the whole; the bit before is
+-- carried along. Assumes nothing.
 use mathlib.Core.Path.{_≡_}
 use mathlib.Core.Logic.{⊎-elim}
 use Prim.Native.Nat.{_+_, _-_, _*_, _≤_}
@@ -13,9 +14,6 @@ use Rattle.stairs.proofs.Rows.{row-fits, row-next, row-low, row-xor, ro
 use borrow.Author.Needs.{needs}
 use Rattle.stairs.proofs.count_rows.Statement.{statement}
 use Rattle.stairs.proofs.count_rows.Tie as tie
-use Rattle.stairs.proofs.count_rows.Reads as reads
-use Rattle.stairs.proofs.count_rows.Lts as lts
-use Rattle.tanner.proofs.xor_at.Reads as xor-at-reads
 
 abbrev Inv-loop : tie.InvT-loop
 Inv-loop width k m taps bytes unsatisfied₀ before₀ a₀ i₀ unsatisfied before a i =
@@ -33,7 +31,8 @@ row c =
 
 -- once its message positions are XORed: the XOR of the whole row
 whole : (c : tie.After-xor-at Inv-loop μ-loop) → let l = c .before .before .before .before in let s = l .before .before .before .args in
-    bitXor (bitXor (c .xor-at .result) (getD (s .bytes .now) (s .k + l .loop .i) 0)) (l .loop .before) ≡ xorFrom 0 (stairRow (s .k) (s .width) (s .taps .now) (l .loop .i)) (s .bytes .now)
+    bitXor (bitXor (c .xor-at .result) (getD (s .bytes .now) (s .k + l .loop .i) 0)) (l .loop .before) ≡ xorFrom 0
+    (stairRow (s .k) (s .width) (s .taps .now) (l .loop .i)) (s .bytes .now)
 whole c =
     let l = c .before .before .before .before in
     row-xor _ _ _ _ _ _ _ _ (l .loop .inv .1) (c .xor-at .ensures) (l .loop .inv .3)

@@ -4,10 +4,6 @@ use Rattle.tanner.proofs.First.{both}
 use borrow.Author.Needs.{needs}
 use Rattle.stairs.proofs.counted.Statement.{statement}
 use Rattle.stairs.proofs.counted.Tie as tie
-use Rattle.stairs.proofs.counted.Reads as reads
-use Rattle.stairs.proofs.counted.Lts as lts
-use Rattle.stairs.proofs.count.Reads as count-reads
-use Rattle.stairs.proofs.first_counted.Reads as first-counted-reads
 
 count-requires : tie.Need-count-requires
 count-requires c κs = search needs

@@ -9,9 +9,6 @@ use Rattle.stairs.proofs.Rows.{row-fits, row-next, row-low, rows-all, b
 use borrow.Author.Needs.{needs}
 use Rattle.stairs.proofs.fill.Statement.{statement}
 use Rattle.stairs.proofs.fill.Tie as tie
-use Rattle.stairs.proofs.fill.Reads as reads
-use Rattle.stairs.proofs.fill.Lts as lts
-use Rattle.tanner.proofs.xor_at.Reads as xor-at-reads
 
 abbrev Inv-loop : tie.InvT-loop
 Inv-loop width k m taps codeword₀ before₀ a₀ i₀ codeword before a i =
@@ -82,7 +79,8 @@ loop-again c =
       next,
       simp length-set (l .loop .inv .2),
       before-set (s .args .k) (l .loop .i) _ (l .loop .codeword) (inside t),
-      fill-more (s .args .k) (s .args .width) (s .args .taps .now) (l .loop .codeword) (l .loop .i) (l .loop .a) _ (l .loop .before) (l .loop .inv .1) (c .xor-at .ensures) (l .loop .inv .3)
+      fill-more (s .args .k) (s .args .width) (s .args .taps .now) (l .loop .codeword) (l .loop .i) (l .loop .a) _ (l .loop .before) (l .loop .inv .1)
+          (c .xor-at .ensures) (l .loop .inv .3)
           (s .pre .low) (inside t) (s .args .m) _ (t .loop-test .taken) (l .loop .inv .4),
     )
 

@@ -4,9 +4,6 @@ use Rattle.tanner.proofs.First.{zero-none, masked-adds}
 use borrow.Author.Needs.{needs}
 use Rattle.stairs.proofs.first_counted.Statement.{statement}
 use Rattle.stairs.proofs.first_counted.Tie as tie
-use Rattle.stairs.proofs.first_counted.Reads as reads
-use Rattle.stairs.proofs.first_counted.Lts as lts
-use Rattle.stairs.proofs.first_row.Reads as first-row-reads
 
 returns : tie.Need-returns
 returns c =

@@ -1,4 +1,5 @@
--- `stairs::first_row` meets its contract. The invariant: what is first among the rows that are left is first among all; the bit before is carried along. Assumes nothing.
+-- `stairs::first_row` meets its contract. The invariant: what is first among the rows that are left is first among all; the bit before is carried along.
+-- Assumes nothing.
 use mathlib.Core.Path.{_≡_, refl}
 use Prim.Native.Nat.{_+_, _-_, _*_, _≤_}
 use native.Mathlib.Omega.{arith}
@@ -12,9 +13,6 @@ use Rattle.stairs.proofs.Rows.{row-fits, row-next, row-low, row-xor, ro
 use borrow.Author.Needs.{needs}
 use Rattle.stairs.proofs.first_row.Statement.{statement}
 use Rattle.stairs.proofs.first_row.Tie as tie
-use Rattle.stairs.proofs.first_row.Reads as reads
-use Rattle.stairs.proofs.first_row.Lts as lts
-use Rattle.tanner.proofs.xor_at.Reads as xor-at-reads
 
 abbrev Inv-loop : tie.InvT-loop
 Inv-loop width k m taps bytes last₀ a₀ i₀ last a i =
@@ -32,7 +30,8 @@ row c =
 
 -- once its message positions are XORed: the XOR of the whole row
 whole : (c : tie.After-xor-at Inv-loop μ-loop) → let l = c .before .before .before .before in let s = l .before .before .before .args in
-    bitXor (bitXor (c .xor-at .result) (getD (s .bytes .now) (s .k + l .loop .i) 0)) (l .loop .last) ≡ xorFrom 0 (stairRow (s .k) (s .width) (s .taps .now) (l .loop .i)) (s .bytes .now)
+    bitXor (bitXor (c .xor-at .result) (getD (s .bytes .now) (s .k + l .loop .i) 0)) (l .loop .last) ≡ xorFrom 0
+    (stairRow (s .k) (s .width) (s .taps .now) (l .loop .i)) (s .bytes .now)
 whole c =
     let l = c .before .before .before .before in
     row-xor _ _ _ _ _ _ _ _ (l .loop .inv .1) (c .xor-at .ensures) (l .loop .inv .2)
@@ -77,7 +76,8 @@ returns c =
     let t = x .before .before .before in
     let l = t .before in
     let s = l .before .before .before .args in
-    first-here 1 _ _ _ _ _ _ _ (rows-more (s .k) (s .width) (s .m) (s .taps .now) (l .loop .i) (t .loop-test .taken)) (whole x) (l .loop .inv .3) (c .if1 .taken)
+    first-here 1 _ _ _ _ _ _ _ (rows-more (s .k) (s .width) (s .m) (s .taps .now) (l .loop .i) (t .loop-test .taken)) (whole x) (l .loop .inv .3)
+    (c .if1 .taken)
 
 add-i : tie.Need-add-i Inv-loop μ-loop
 add-i c = search needs

@@ -28,7 +28,8 @@ slice-relend-prefix-read-full c = search needs
 slice-aggregate-read-full-2 : tie.Need-slice-aggregate-read-full-2
 slice-aggregate-read-full-2 c =
     let whole = c .before in
-    sym (length-take-le (whole .before .length-of .result) (whole .before .before .before .before .before .before .before .before .args .input .now) (whole .if2 .left))
+    sym (length-take-le (whole .before .length-of .result) (whole .before .before .before .before .before .before .before .before .args .input .now)
+    (whole .if2 .left))
 
 read-full-requires-2 : tie.Need-read-full-requires-2
 read-full-requires-2 c κs = search needs

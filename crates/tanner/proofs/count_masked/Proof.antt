@@ -6,13 +6,11 @@ use native.Mathlib.Omega.{arith}
 use lib.ListN.{length, getD}
 use Rattle.tanner.specs.Checks.{countMasked}
 use Rattle.tanner.specs.Flat.{rowsFrom, rowsOf, Within}
-use Rattle.tanner.proofs.Steps.{part-below, rows-more, rows-done, count-more, count-same, count-done}
+use Rattle.tanner.proofs.Below.{below-part}
+use Rattle.tanner.proofs.Steps.{rows-more, rows-done, count-more, count-same, count-done}
 use borrow.Author.Needs.{needs}
 use Rattle.tanner.proofs.count_masked.Statement.{statement}
 use Rattle.tanner.proofs.count_masked.Tie as tie
-use Rattle.tanner.proofs.count_masked.Reads as reads
-use Rattle.tanner.proofs.count_masked.Lts as lts
-use Rattle.tanner.proofs.xor_check.Reads as xor-check-reads
 
 abbrev Inv-loop : tie.InvT-loop
 Inv-loop starts flat bytes mask unsatisfied₀ c₀ unsatisfied c =
@@ -72,7 +70,7 @@ xor-check-requires c κs =
     let loop = c .before .before .before .before in
     let start = loop .before .before .before .before in
     let s = start .args .starts .now in
-    part-below _ _ (getD s (loop .loop .c) 0) (getD s (loop .loop .c + 1) 0) (start .pre .low)
+    below-part _ _ (getD s (loop .loop .c) 0) (getD s (loop .loop .c + 1) 0) (start .pre .low)
 
 add-unsatisfied : tie.Need-add-unsatisfied Inv-loop μ-loop
 add-unsatisfied c = search needs
@@ -87,8 +85,18 @@ loop-again : tie.Need-loop-again Inv-loop μ-loop
 loop-again c =
     let turn = c .before .before .before .before .before in
     ⊎-elim
-    (λ w. (search needs, omega arith, rw (w .1) (count-more _ _ _ _ _ _ _ _ (rows-more _ _ _ (turn .loop-test .taken)) (c .before .xor-check .ensures) (turn .before .loop .inv .2) (w .0 .taken))))
-    (λ w. (search needs, omega arith, rw (w .1) (count-same _ _ _ _ _ _ _ _ (rows-more _ _ _ (turn .loop-test .taken)) (c .before .xor-check .ensures) (turn .before .loop .inv .2) (w .0 .left))))
+    (λ w. (
+      search needs,
+      omega arith,
+      rw (w .1)
+          (count-more _ _ _ _ _ _ _ _ (rows-more _ _ _ (turn .loop-test .taken)) (c .before .xor-check .ensures) (turn .before .loop .inv .2) (w .0 .taken)),
+    ))
+    (λ w. (
+      search needs,
+      omega arith,
+      rw (w .1)
+          (count-same _ _ _ _ _ _ _ _ (rows-more _ _ _ (turn .loop-test .taken)) (c .before .xor-check .ensures) (turn .before .loop .inv .2) (w .0 .left)),
+    ))
     (c .if1 .came)
 
 returns : tie.Need-returns Inv-loop μ-loop

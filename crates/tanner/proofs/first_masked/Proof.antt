@@ -1,11 +1,12 @@
 -- `tanner::first_masked` meets its contract. The invariant: the first among the checks ahead is the first of all. Assumes nothing.
-use mathlib.Core.Path.{_≡_, sym}
+use mathlib.Core.Path.{_≡_}
 use Prim.Native.Nat.{_+_, _-_, _≤_, _<_}
 use native.Mathlib.Omega.{arith}
 use lib.ListN.{length, getD}
 use Rattle.tanner.specs.Checks.{measured, firstBy, firstMasked}
 use Rattle.tanner.specs.Flat.{rowsFrom, rowsOf, Within}
-use Rattle.tanner.proofs.Steps.{part-below, rows-more, rows-done, first-here, first-later, first-nowhere}
+use Rattle.tanner.proofs.Below.{below-part}
+use Rattle.tanner.proofs.Steps.{rows-more, rows-done, first-here, first-later, first-nowhere}
 use borrow.Author.Needs.{needs}
 use Rattle.tanner.proofs.first_masked.Statement.{statement}
 use Rattle.tanner.proofs.first_masked.Tie as tie
@@ -68,7 +69,7 @@ xor-check-requires c κs =
     let loop = c .before .before .before .before in
     let start = loop .before .before .before .before in
     let s = start .args .starts .now in
-    part-below _ _ (getD s (loop .loop .c) 0) (getD s (loop .loop .c + 1) 0) (start .pre .low)
+    below-part _ _ (getD s (loop .loop .c) 0) (getD s (loop .loop .c + 1) 0) (start .pre .low)
 
 cast-t19 : tie.Need-cast-t19 Inv-loop μ-loop
 cast-t19 c = let start = c .before .before .before .before .before .before .before .before .before .before in omega (arith, start .pre .few)
@@ -86,8 +87,11 @@ loop-less c = search needs
 
 loop-again : tie.Need-loop-again Inv-loop μ-loop
 loop-again c =
-    let turn = c .before .before .before .before .before in
-    (search needs, first-later _ _ _ _ _ _ _ _ (rows-more _ _ _ (turn .loop-test .taken)) (c .before .xor-check .ensures) (turn .before .loop .inv .1) (c .if1 .left))
+    let turn = c .before .before .before .before .before in (
+      search needs,
+      first-later _ _ _ _ _ _ _ _ (rows-more _ _ _ (turn .loop-test .taken)) (c .before .xor-check .ensures) (turn .before .loop .inv .1)
+          (c .if1 .left),
+    )
 
 returns-2 : tie.Need-returns-2 Inv-loop μ-loop
 returns-2 c = first-nowhere _ _ _ _ _ (rows-done _ _ _ (c .loop-test .left)) (c .before .loop .inv .1)

@@ -9,8 +9,6 @@ use Rattle.tanner.proofs.Steps.{xor-more, xor-done}
 use borrow.Author.Needs.{needs}
 use Rattle.tanner.proofs.xor_at.Statement.{statement}
 use Rattle.tanner.proofs.xor_at.Tie as tie
-use Rattle.tanner.proofs.xor_at.Reads as reads
-use Rattle.tanner.proofs.xor_at.Lts as lts
 
 abbrev Inv-loop : tie.InvT-loop
 Inv-loop positions bytes x₀ i₀ x i = (i ≤ length positions) × (xorFrom x (drop i positions) bytes ≡ xorFrom 0 positions bytes)

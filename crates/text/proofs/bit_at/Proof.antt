@@ -1,5 +1,4 @@
 -- `text::bit_at` meets its contract. Past the last bit the list has 0 by default. Assumes nothing.
-use mathlib.Core.Path.{refl}
 use lib.ListN.{List·getD-eq-default}
 use borrow.Author.Needs.{needs}
 use Rattle.text.proofs.bit_at.Statement.{statement}

@@ -1,5 +1,4 @@
 -- `text::hex_digit` meets its contract. The two ranges of digits are the two branches. Assumes nothing.
-use mathlib.Core.Path.{refl}
 use borrow.Author.Tests.{lt-ltb, le-ltb}
 use Rattle.text.specs.Text.{hexDigit}
 use borrow.Author.Needs.{needs}

@@ -1,6 +1,6 @@
 -- `text::put_hex` meets its contract. The invariant: with the bytes that are left put where the loop stands, the buffer holds the whole text. Assumes nothing.
 use native.Mathlib.Omega.{arith}
-use mathlib.Core.Path.{refl, ap}
+use mathlib.Core.Path.{ap}
 use Prim.Native.Nat.{_+_, _-_}
 use lib.ListN.{length}
 use Rattle.text.specs.Text.{byteAt, hexByte, hex}
@@ -40,7 +40,9 @@ loop-again c =
     let start = c .before .before .before .before .before .before .before .before .before in
     let now = c .before .before .before .before .before .before .loop in
     let bits = start .args .bits .now in
-    left-less (start .args .out .now) (start .args .at) (hex bits) now.out now.next (hexByte (byteAt bits now.i)) (hexRest bits (now.i + 8)) _ _ (omega arith) (rw (hex-more bits now.i (omega arith)) at (now .inv)) (rw (c .before .before .before .before .byte-at .ensures) at (c .before .before .put-hex-byte .ensures))
+    left-less (start .args .out .now) (start .args .at) (hex bits) now.out now.next (hexByte (byteAt bits now.i)) (hexRest bits (now.i + 8)) _ _ (omega arith)
+    (rw (hex-more bits now.i (omega arith)) at (now .inv))
+    (rw (c .before .before .before .before .byte-at .ensures) at (c .before .before .put-hex-byte .ensures))
 
 same-length : tie.Need-same-length Inv-loop μ-loop
 same-length c = search needs

@@ -1,6 +1,5 @@
 -- `text::put_hex_byte` meets its contract. Two digits, one after the other. Assumes nothing.
 use native.Mathlib.Omega.{arith}
-use mathlib.Core.Path.{refl}
 use Rattle.text.proofs.Put.{then}
 use borrow.Author.Needs.{needs}
 use Rattle.text.proofs.put_hex_byte.Statement.{statement}

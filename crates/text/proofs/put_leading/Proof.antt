@@ -1,6 +1,5 @@
 -- `text::put_leading` meets its contract. A number below the weight has no digit there. Assumes nothing.
 use native.Mathlib.Omega.{arith}
-use mathlib.Core.Path.{refl}
 use borrow.Author.Tests.{lt-ltb, le-ltb}
 use Rattle.text.specs.Text.{leading}
 use Rattle.text.proofs.Put.{nothing}
@@ -23,7 +22,11 @@ add-put-byte c = search needs
 
 put-byte-requires : tie.Need-put-byte-requires
 unfolding leading
-put-byte-requires c κs = omega (arith, rw (le-ltb (c .before .before .before .args .n) (c .before .before .before .args .p) (c .before .if1 .left)) at (c .before .before .before .pre .1))
+put-byte-requires c κs =
+    omega (
+      arith,
+      rw (le-ltb (c .before .before .before .args .n) (c .before .before .before .args .p) (c .before .if1 .left)) at (c .before .before .before .pre .1),
+    )
 
 same-length : tie.Need-same-length
 same-length c = search needs

@@ -1,7 +1,7 @@
 -- `text::put_text` meets its contract. The invariant: with the bytes that are left put where the loop stands, the buffer holds the whole text. Assumes nothing.
 use native.Mathlib.Omega.{arith}
 use native.Mathlib.Numerals.{add-one}
-use mathlib.Core.Path.{_≡_, refl}
+use mathlib.Core.Path.{_≡_}
 use mathlib.Core.List.{[], _∷_, _++_}
 use Prim.Native.Nat.{_+_, _-_, _≤_}
 use lib.ListN.{length, drop, getD, length-drop, drop-of-length-le}
@@ -47,7 +47,8 @@ loop-again c =
     let size = length-drop now.i text in
     let more : drop now.i text ≡ (getD text now.i 0 ∷ []) ++ drop (now.i + 1) text = rw (add-one now.i) (drop-cons text now.i 0 (omega arith)) in (
       omega arith,
-      left-less (start .args .out .now) (start .args .at) text now.out now.next (getD text now.i 0 ∷ []) (drop (now.i + 1) text) _ _ (omega arith) (rw more at (now .inv .1)) (one now.out now.next (getD text now.i 0) (omega arith)),
+      left-less (start .args .out .now) (start .args .at) text now.out now.next (getD text now.i 0 ∷ []) (drop (now.i + 1) text) _ _ (omega arith)
+          (rw more at (now .inv .1)) (one now.out now.next (getD text now.i 0) (omega arith)),
     )
 
 same-length : tie.Need-same-length Inv-loop μ-loop
@@ -57,7 +58,8 @@ returns : tie.Need-returns Inv-loop μ-loop
 returns c =
     let start = c .before .before in
     let now = c .before .loop in
-    left-none (start .args .out .now) (start .args .at) (start .args .text .now) now.out now.next (rw (drop-of-length-le (start .args .text .now) (c .loop-test .left)) at (now .inv .1))
+    left-none (start .args .out .now) (start .args .at) (start .args .text .now) now.out now.next
+    (rw (drop-of-length-le (start .args .text .now) (c .loop-test .left)) at (now .inv .1))
 
 pub put-text-spec : {M : Type 1} → statement M
 put-text-spec =

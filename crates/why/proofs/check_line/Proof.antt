@@ -25,7 +25,8 @@ unfolding checkStarts0 checkBits0
 check-over-requires c κs =
     let chosen = c .before .before .before in
     let z = chosen .before .before .before in
-    asks tables0 (z .args .c) (z .args .word .now) (rw (chosen .if1 .taken) at (z .pre .1 .0)) (rw (chosen .if1 .taken) at (z .pre .1 .1 .0)) _ (z .pre .1 .1 .1)
+    asks tables0 (z .args .c) (z .args .word .now) (rw (chosen .if1 .taken) at (z .pre .1 .0)) (rw (chosen .if1 .taken) at (z .pre .1 .1 .0)) _
+    (z .pre .1 .1 .1)
 
 same-length : tie.Need-same-length
 same-length c = search needs
@@ -49,7 +50,8 @@ unfolding checkStarts1 checkBits1
 check-over-requires-2 c κs =
     let chosen = c .before .before .before in
     let z = chosen .before .before .before .before in
-    asks tables1 (z .args .c) (z .args .word .now) (rw (chosen .if2 .taken) at (z .pre .1 .0)) (rw (chosen .if2 .taken) at (z .pre .1 .1 .0)) _ (z .pre .1 .1 .1)
+    asks tables1 (z .args .c) (z .args .word .now) (rw (chosen .if2 .taken) at (z .pre .1 .0)) (rw (chosen .if2 .taken) at (z .pre .1 .1 .0)) _
+    (z .pre .1 .1 .1)
 
 same-length-2 : tie.Need-same-length-2
 same-length-2 c = search needs
@@ -73,7 +75,8 @@ unfolding checkStarts2 checkBits2
 check-over-requires-3 c κs =
     let chosen = c .before .before .before in
     let z = chosen .before .before .before .before .before in
-    asks tables2 (z .args .c) (z .args .word .now) (rw (chosen .if3 .taken) at (z .pre .1 .0)) (rw (chosen .if3 .taken) at (z .pre .1 .1 .0)) _ (z .pre .1 .1 .1)
+    asks tables2 (z .args .c) (z .args .word .now) (rw (chosen .if3 .taken) at (z .pre .1 .0)) (rw (chosen .if3 .taken) at (z .pre .1 .1 .0)) _
+    (z .pre .1 .1 .1)
 
 same-length-3 : tie.Need-same-length-3
 same-length-3 c = search needs

@@ -5,7 +5,7 @@ use Prim.Native.Nat.{ℕ, _+_, _-_, _≤_}
 use native.Mathlib.Omega.{arith}
 use lib.ListN.{length, getD, take, drop}
 use Rattle.tanner.specs.Flat.{Within, rowsOf}
-use Rattle.tanner.proofs.Steps.{part-below}
+use Rattle.tanner.proofs.Below.{below-part}
 use Rattle.text.specs.Text.{field}
 use Rattle.text.proofs.Put.{then, room-left}
 use Rattle.why.specs.Lines.{checkWord, entries, checkLine}
@@ -103,7 +103,7 @@ put-entries-requires : tie.Need-put-entries-requires
 put-entries-requires c κs =
     let h = c .before .before .before .before in
     let z = start h in
-    (part-below _ (flat z) (a z) (b z) (z .pre .0 .low), omega (arith, room1 h))
+    (below-part _ (flat z) (a z) (b z) (z .pre .0 .low), omega (arith, room1 h))
 
 put-byte-requires : tie.Need-put-byte-requires
 put-byte-requires c κs = omega (arith, room2 (c .before .before .before))

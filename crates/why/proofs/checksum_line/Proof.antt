@@ -23,7 +23,10 @@ C d = d .before .before .before .before
 -- ---- the room that is left
 
 room1 : (a : tie.After-put-text) → a .put-text .result + 10 ≤ length (a .put-text .last .0)
-room1 a = let z = a .before .before .before .before in room-left _ _ _ _ _ _ (a .put-text .ensures) (omega (arith, checksum-length (z .args .carried) (z .args .computed), z .pre))
+room1 a =
+    let z =
+    a .before .before .before .before in room-left _ _ _ _ _ _ (a .put-text .ensures)
+    (omega (arith, checksum-length (z .args .carried) (z .args .computed), z .pre))
 
 room2 : (b : tie.After-put-hex-word) → b .put-hex-word .result + 6 ≤ length (b .put-hex-word .last .0)
 room2 b = room-left _ _ _ _ _ _ (b .put-hex-word .ensures) (room1 (A b))

@@ -171,7 +171,9 @@ returns c =
     let f = lent d .before in
     let z = start f in
     let found = d .find-reason .ensures in
-    let line = frame-line (z .args .input .now) (head f) (f .before .before .read-header .ensures) (z .args .values .now) (pairsOf (z .args .pairs .now)) (part f) _ (part-is f)
+    let line =
+    frame-line (z .args .input .now) (head f) (f .before .before .read-header .ensures) (z .args .values .now) (pairsOf (z .args .pairs .now)) (part f) _
+    (part-is f)
     (front d ∙ found .1 .0) (found .0) in
     (rw line at (done .reason-line .ensures .0), done .reason-line .ensures .1)
 

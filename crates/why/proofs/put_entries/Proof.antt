@@ -74,7 +74,8 @@ loop-again c =
     let a = start (t .before) .args in
     let room = start (t .before) .pre .1 in (
       search needs,
-      left-less (a .out .now) (a .at) (entries (a .positions .now) (a .word .now)) now.out now.next _ _ _ _ room (rw (more t) at (now .inv .1)) (done .put-pair .ensures),
+      left-less (a .out .now) (a .at) (entries (a .positions .now) (a .word .now)) now.out now.next _ _ _ _ room (rw (more t) at (now .inv .1))
+          (done .put-pair .ensures),
     )
 
 same-length : tie.Need-same-length Inv-loop μ-loop

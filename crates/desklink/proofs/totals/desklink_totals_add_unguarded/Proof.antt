@@ -12,7 +12,8 @@ summed-code-requires : tie.Need-summed-code-requires
 summed-code-requires c κs = search needs
 
 returns : tie.Need-returns
-returns c = writes-told (c .before .before .before .before .before .add-batch .ensures) (c .summed-code .ensures) (read-back (record { sfits = c .summed-code .ok }))
+returns c =
+    writes-told (c .before .before .before .before .before .add-batch .ensures) (c .summed-code .ensures) (read-back (record { sfits = c .summed-code .ok }))
 
 pub desklink-totals-add-unguarded-spec : {M : Type 1} → statement M
 desklink-totals-add-unguarded-spec =
