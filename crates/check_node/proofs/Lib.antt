@@ -9,3 +9,4 @@ pub mod CellSlots
 pub mod CellColumns
 pub mod PadsSet
 pub mod Steps
+pub mod OneColumn

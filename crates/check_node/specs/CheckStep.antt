@@ -15,6 +15,12 @@ pub record AtColumns (f : List Float → List Float) (m d : ℕ) (w v : List Flo
   pub size : length v ≡ length w
   pub columns : (c : ℕ) → c < m → column m d c v ≡ f (column m d c w)
 
+-- v is w with xs in column c of d entries, and no other column changed
+pub record ColumnIs (m d c : ℕ) (xs w v : List Float) : Type 0 where
+  pub size : length v ≡ length w
+  pub here : column m d c v ≡ xs
+  pub apart : (k : ℕ) → k < m → (k ≡ c → ⊥) → column m d k v ≡ column m d k w
+
 -- the message in the place of a last entry that a check lacks: +infinity, or -infinity where the rule takes minus the message
 unfoldable pub padOf : DecodeRule → Float
 padOf SumProduct = inf false

@@ -11,12 +11,16 @@ ghost use mathlib.Core.List.{List};
 ghost use lib.Ieee.{Float};
 ghost use Rattle.softmath.specs.Single.{product};
 ghost use Rattle.softmath.specs.CheckNode.{turned, minSum, atEach, middle, checkStep};
-ghost use Rattle.slots.specs.Columns.{columnFrom};
+ghost use Rattle.softmath.specs.Others.{othersSum};
+ghost use Rattle.slots.specs.Columns.{columnFrom, column};
 ghost use Rattle.slots.specs.Layout.{scattered};
-ghost use Rattle.check_node.specs.CheckStep.{AtColumns, padOf, factorOf};
+ghost use Rattle.check_node.specs.CheckStep.{AtColumns, ColumnIs, padOf, factorOf};
 ghost use Rattle.check_node.specs.Cells.{cellIn, fresh, Noted, Answered, NotedColumns, AnsweredColumns};
 ghost use Rattle.check_node.specs.Products.{times, timesSlots, ones, SlotTurned, ByColumns};
 use softmath::DecodeRule;
+
+// Which engine answers a min-sum check: the two least magnitudes of all its messages, or each entry's others one by one.
+const BY_OTHERS: bool = false;
 
 // ---- products
 
@@ -276,14 +280,114 @@ fn min_sum_slots(rule: DecodeRule, m: usize, d: usize, work: &mut [f32], scratch
     answer_each(rule, m, d, work, scratch);
 }
 
-// Min-sum at every check, with what is seen of each in a local array.
-fn min_sum_step(rule: DecodeRule, m: usize, d: usize, work: &mut [f32])
+// Min-sum at every check by the first engine, with what is seen of each in a local array.
+fn min_sum_minima(rule: DecodeRule, m: usize, d: usize, work: &mut [f32])
     requires { ⌜ length (now work) ≡ d * m ⌝ }
     requires { ⌜ m ≤ 256 ⌝ }
     ensures { λ _. ⌜ AtColumns (minSum (factorOf rule)) m d (now (work .entry)) (now (work .exit)) ⌝ }
 {
     let mut scratch = [0.0f32; 768];
     min_sum_slots(rule, m, d, work, &mut scratch);
+}
+
+// ---- min-sum by the second engine
+
+// The messages of check c, at the front of an array.
+fn column_of(m: usize, d: usize, c: usize, work: &[f32]) -> [f32; 16]
+    requires { ⌜ (length (now work) ≡ d * m) × (c < m) ⌝ }
+    requires { ⌜ (m ≤ 256) × (d ≤ 16) ⌝ }
+    ensures { λ r. ⌜ (length r ≡ 16) × (take d r ≡ column m d c (now (work .entry))) ⌝ }
+{
+    let mut messages = [0.0f32; 16];
+    let mut p = c;
+    let mut j = 0;
+    while j < d {
+        messages[j] = work[p];
+        p += m;
+        j += 1;
+    }
+    messages
+}
+
+// The answers to check c, in the place of its messages.
+fn put_column(m: usize, c: usize, answers: &[f32], work: &mut [f32])
+    requires { ⌜ (length (now work) ≡ length (now answers) * m) × (c < m) ⌝ }
+    requires { ⌜ (m ≤ 256) × (length (now answers) ≤ 16) ⌝ }
+    ensures { λ _. ⌜ ColumnIs m (length (now (answers .entry))) c (now (answers .entry)) (now (work .entry)) (now (work .exit)) ⌝ }
+{
+    let mut p = c;
+    let mut j = 0;
+    while j < answers.len() {
+        work[p] = answers[j];
+        p += m;
+        j += 1;
+    }
+}
+
+// The answers to these messages of check c, each from its others, in their place. The rule is matched at each check.
+fn replace_column(
+    rule: DecodeRule,
+    m: usize,
+    c: usize,
+    messages: &[f32],
+    answers: &mut [f32],
+    work: &mut [f32],
+)
+    requires { ⌜ (length (now work) ≡ length (now messages) * m) × (c < m) ⌝ }
+    requires { ⌜ (m ≤ 256) × (length (now messages) ≤ 16) × (length (now answers) ≡ length (now messages)) ⌝ }
+    ensures { λ _. ⌜ ColumnIs m (length (now (messages .entry))) c
+        (othersSum (factorOf rule) (now (messages .entry))) (now (work .entry)) (now (work .exit)) ⌝ }
+{
+    softmath::min_sum_by_others(factor_of(rule), messages, answers);
+    put_column(m, c, answers, work);
+}
+
+// Check c by the second engine.
+fn answer_check(rule: DecodeRule, m: usize, d: usize, c: usize, work: &mut [f32])
+    requires { ⌜ (length (now work) ≡ d * m) × (c < m) ⌝ }
+    requires { ⌜ (m ≤ 256) × (d ≤ 16) ⌝ }
+    ensures { λ _. ⌜ ColumnIs m d c (othersSum (factorOf rule) (column m d c (now (work .entry)))) (now (work .entry)) (now (work .exit)) ⌝ }
+{
+    let messages = column_of(m, d, c, work);
+    let mut answers = [0.0f32; 16];
+    replace_column(rule, m, c, &messages[..d], &mut answers[..d], work);
+}
+
+// Min-sum at every check by the second engine.
+fn min_sum_others(rule: DecodeRule, m: usize, d: usize, work: &mut [f32])
+    requires { ⌜ length (now work) ≡ d * m ⌝ }
+    requires { ⌜ (m ≤ 256) × (d ≤ 16) ⌝ }
+    ensures { λ _. ⌜ AtColumns (othersSum (factorOf rule)) m d (now (work .entry)) (now (work .exit)) ⌝ }
+{
+    let mut c = 0;
+    while c < m {
+        answer_check(rule, m, d, c, work);
+        c += 1;
+    }
+}
+
+// The same, as the check step asks for it: what equates the two engines is the theorem of `softmath`.
+fn min_sum_second(rule: DecodeRule, m: usize, d: usize, work: &mut [f32])
+    requires { ⌜ length (now work) ≡ d * m ⌝ }
+    requires { ⌜ (m ≤ 256) × (d ≤ 16) ⌝ }
+    ensures { λ _. ⌜ AtColumns (minSum (factorOf rule)) m d (now (work .entry)) (now (work .exit)) ⌝ }
+{
+    min_sum_others(rule, m, d, work);
+}
+
+// Min-sum by the engine that the constant selects. The second takes checks of up to 16 entries, and the codes have none above 11.
+fn min_sum_step(rule: DecodeRule, m: usize, d: usize, work: &mut [f32])
+    requires { ⌜ length (now work) ≡ d * m ⌝ }
+    requires { ⌜ m ≤ 256 ⌝ }
+    ensures { λ _. ⌜ AtColumns (minSum (factorOf rule)) m d (now (work .entry)) (now (work .exit)) ⌝ }
+{
+    if BY_OTHERS {
+        if d <= 16 {
+            min_sum_second(rule, m, d, work);
+            return;
+        }
+    }
+    min_sum_minima(rule, m, d, work);
 }
 
 // ---- the check step
