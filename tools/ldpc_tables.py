@@ -66,6 +66,11 @@ def main():
         bit_edges += [e for e in range(len(check_bits)) if check_bits[e] == b]
         bit_start.append(len(bit_edges))
 
+    # by slots: entry j of check c lies at place 83 * j + c
+    slot = [83 * j + c for c in range(83) for j in range(num_rows[c])]
+    edges = [slot[e] for e in bit_edges]
+    pads = [83 * 6 + c for c in range(83) if num_rows[c] == 6]
+
     rust = [
         ("The parity generator: 83 rows of 12 bytes, most significant bit first. Row i gives parity bit i.", "GENERATOR", generator, 12, "0x%02x"),
         ("The parity checks: 83 rows of up to 7 positions, counted from 1; 0 means no entry.", "NM", nm, 7, "%d"),
@@ -77,6 +82,8 @@ def main():
         ("The positions of each check, counted from 0: one for each of the 522 edges.", "CHECK_BITS", check_bits, "checkBits"),
         ("Where each position's edges start in BIT_EDGES, and the end of the last.", "BIT_STARTS", bit_start, "bitStart"),
         ("The edges of each position, ascending: indices in CHECK_BITS.", "BIT_EDGES", bit_edges, "bitEdge"),
+        ("By slots: the three places of each position's edges, checks ascending. Entry j of check c lies at place 83 j + c.", "EDGES", edges, "slotEdge"),
+        ("By slots: the place after the last entry of each check of six positions.", "PADS", pads, "slotPads"),
     ]
 
     with open(os.path.join(crate, "src/tables.rt"), "w", encoding="utf-8") as f:

@@ -12,3 +12,4 @@ pub mod Span
 pub mod Codewords
 pub mod PackedWords
 pub mod Sevens
+pub mod BySlots
