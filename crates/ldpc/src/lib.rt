@@ -244,6 +244,28 @@ fn padded_word(hard: &[u8]) -> [u8; 175]
     padded
 }
 
+// How many checks the low bits of a word leave unsatisfied.
+pub fn count_low(hard: &[u8]) -> u16
+    requires { ⌜ length (now hard) ≡ 174 ⌝ }
+    ensures { λ r. ⌜ r ≡ countMasked 1 checks (now (hard .entry)) ⌝ }
+{
+    let padded = padded_word(hard);
+    count_word(&padded, 1)
+}
+
+// The first of them, of a word whose count is known: the scan is spared where the count is 0.
+pub fn first_low(count: u16, hard: &[u8]) -> FirstCheck
+    requires { ⌜ length (now hard) ≡ 174 ⌝ }
+    requires { ⌜ count ≡ countMasked 1 checks (now hard) ⌝ }
+    ensures { λ r. ⌜ firstOf r ≡ firstMasked 1 checks (now (hard .entry)) ⌝ }
+{
+    if count == 0 {
+        return FirstCheck::Satisfied;
+    }
+    let padded = padded_word(hard);
+    first_row(&tables::NM, &padded, 1)
+}
+
 // How many checks have bytes whose XOR is not zero, and the first of them.
 pub fn ldpc_count_errors(hard: &[u8]) -> Counting
     ensures { λ r. ⌜ countingOf r ≡ judged (countRefusals (now (hard .entry))) (syndromeOfBytes checks (now (hard .entry))) ⌝ }
