@@ -14,7 +14,7 @@ use Rattle.staircase.proofs.N512R34.{taps2}
 use Rattle.stairs.specs.Stairs.{Stairs}
 
 -- a test of every entry
-unfoldable allBelow : ℕ → List ℕ → Bool
+unfoldable pub allBelow : ℕ → List ℕ → Bool
 allBelow n [] = true
 allBelow n (x ∷ xs) = ltb x n && allBelow n xs
 
@@ -26,7 +26,7 @@ split true true p = (refl, refl)
 split true false p = true-false p
 split false b p = true-false p
 
-tested : (n : ℕ) (xs : List ℕ) → allBelow n xs ≡ true → Below n xs
+pub tested : (n : ℕ) (xs : List ℕ) → allBelow n xs ≡ true → Below n xs
 unfolding allBelow Below
 tested n [] t k h = absurd (omega arith)
 tested n (x ∷ xs) t zero h = ltb-true x n (split (ltb x n) (allBelow n xs) t .0)
