@@ -1,6 +1,11 @@
-//! FT8's checksum, its (174,91) LDPC code and three staircase LDPC codes, under orion-sdr's names and shapes, over a static library whose functions are proved to meet their contracts.
+//! FT8's checksum, its (174,91) LDPC code and three staircase LDPC codes, under orion-sdr's names and shapes, over a static library
+//! whose functions are proved to meet their contracts.
 //!
-//! What orion-sdr answers by a panic is answered here by a [`Refusal`]; what cannot be refused, since its arguments' types fix their lengths, has orion-sdr's own return type. A limit of rounds is a `u16`.
+//! What orion-sdr answers by a panic is answered here by a [`Refusal`]; what cannot be refused, since its arguments' types fix their
+//! lengths, has orion-sdr's own return type. A limit of rounds is a `u16`.
+//!
+//! [`decode_frames`] decodes frames and says of each whether it can be trusted; [`frame_reason`] says why one cannot. [`Batch`] writes
+//! into memory that is lent, [`Totals`] adds up many batches, and [`slices`] has every call as the library has it.
 //!
 //! ```
 //! use desklink::{Ldpc, LdpcCode};

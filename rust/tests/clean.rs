@@ -1,5 +1,5 @@
-//! Whether a frame is clean, against an account of its own, written from change request N2: its count is 0, none of its values is NaN and, for code 3, the checksum
-//! that `ft8_add_crc` would store for its 77 payload bits equals the one that it carries.
+//! Whether a frame is clean, against an account of its own, written from change request N2: its count is 0, none of its values is NaN
+//! and, for code 3, the checksum that `ft8_add_crc` would store for its 77 payload bits equals the one that it carries.
 mod common;
 use common::Random;
 use desklink::{slices, Code, LdpcCode, Refusal};

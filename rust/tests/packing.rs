@@ -1,4 +1,5 @@
-//! Words packed eight bits a byte and taken out again, against an account of its own, on every length up to 200 bits and every length of the other slice near it.
+//! Words packed eight bits a byte and taken out again, against an account of its own: every length up to 200 bits, with every length of
+//! the other slice.
 mod common;
 
 use common::Random;

@@ -1,47 +1,16 @@
 // Reception figures of batches: each argument names a file that holds a batch as `batchlist` takes it. A file that is not counted gets a line with its place
 // among the arguments, from 1, and the reason; the last line has the figures of all frames counted.
 use figures::Totals;
-use libc::STDOUT_FILENO;
+use streams::Got;
 ghost use mathlib.Core.Path.{_≡_};
 ghost use Prim.Native.Nat.{_≤_};
 ghost use lib.ListN.{length};
-
-// What was read of a file: so many bytes, or that it cannot be read.
-struct Got {
-    readable: bool,
-    bytes: usize,
-}
 
 // Room for the longest input and one byte more, by which a longer one is seen.
 fn input_room() -> [u8; 65537]
     ensures { λ r. ⌜ 65537 ≡ length r ⌝ }
 {
     [0; 65537]
-}
-
-// Reads to the end of the file, or until the room is full. A read that fails is told from the end.
-fn read_all(fd: i32, input: &mut [u8]) -> Got
-    ensures { λ r. ⌜ r .bytes ≤ length (now (input .exit)) ⌝ }
-{
-    let mut n = 0;
-    while n < input.len() {
-        let got = libc::read(fd, &mut input[n..]);
-        if got < 0 {
-            return Got {
-                readable: false,
-                bytes: 0,
-            };
-        }
-        let more = io::count(got, &input[n..]);
-        if more == 0 {
-            break;
-        }
-        n += more;
-    }
-    Got {
-        readable: true,
-        bytes: n,
-    }
 }
 
 // The file that argument i names. An argument that is too long for a path names none.
@@ -57,7 +26,7 @@ fn read_file(i: usize, input: &mut [u8]) -> Got
             bytes: 0,
         };
     }
-    let got = read_all(fd, input);
+    let got = streams::read_all(fd, input);
     libc::close(fd);
     got
 }
@@ -70,14 +39,14 @@ fn count_file(total: Totals, i: usize) -> Totals {
     let mut out = io::buffer();
     let step = figure_report::add_file(total, i as u64, got.readable, &input[..n], &mut out);
     let end = step.end;
-    io::write_all(STDOUT_FILENO, &out[..end]);
+    streams::print(&out[..end]);
     step.total
 }
 
 fn print_totals(total: Totals) {
     let mut out = io::buffer();
     let end = figure_lines::totals_line(&mut out, 0, total);
-    io::write_all(STDOUT_FILENO, &out[..end]);
+    streams::print(&out[..end]);
 }
 
 fn main() {

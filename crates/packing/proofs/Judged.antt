@@ -3,7 +3,7 @@ use mathlib.Core.Path.{_≡_, refl}
 use mathlib.Core.Bool.{Bool, true, false}
 use mathlib.Core.List.{List, [], _∷_}
 use Prim.Native.Nat.{ℕ}
-use Rattle.refusal.specs.Outcome.{Outcome, accepted, refused, Condition, _when_, judged, kept}
+use Rattle.refusal.specs.Outcome.{Outcome, accepted, refused, _when_, judged, kept}
 
 -- what a call owes: its answer, and what the lent memory holds
 abbrev pub Owed : ℕ → Bool → Outcome Unit → List ℕ → List ℕ → List ℕ → Type 0

@@ -1,14 +1,10 @@
 -- `desklink::desklink_pack_bits` meets its contract: the answer of the call beneath, as a number. Assumes nothing.
-use mathlib.Core.Path.{_≡_, ap, _∙_}
+use mathlib.Core.Path.{ap, _∙_}
 use Rattle.desklink.proofs.Signed.{read-back}
 use Rattle.desklink.specs.Coded.{codedUnit}
 use borrow.Author.Needs.{needs}
 use Rattle.desklink.proofs.desklink_pack_bits.Statement.{statement}
 use Rattle.desklink.proofs.desklink_pack_bits.Tie as tie
-use Rattle.desklink.proofs.desklink_pack_bits.Reads as reads
-use Rattle.desklink.proofs.desklink_pack_bits.Lts as lts
-use Rattle.packing.proofs.pack_bits.Reads as pack-bits-reads
-use Rattle.desklink.proofs.status_code.Reads as status-code-reads
 
 pack-bits-requires : tie.Need-pack-bits-requires
 pack-bits-requires c κs = search needs

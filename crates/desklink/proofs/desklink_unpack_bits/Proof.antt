@@ -1,14 +1,10 @@
 -- `desklink::desklink_unpack_bits` meets its contract: the answer of the call beneath, as a number. Assumes nothing.
-use mathlib.Core.Path.{_≡_, ap, _∙_}
+use mathlib.Core.Path.{ap, _∙_}
 use Rattle.desklink.proofs.Signed.{read-back}
 use Rattle.desklink.specs.Coded.{codedUnit}
 use borrow.Author.Needs.{needs}
 use Rattle.desklink.proofs.desklink_unpack_bits.Statement.{statement}
 use Rattle.desklink.proofs.desklink_unpack_bits.Tie as tie
-use Rattle.desklink.proofs.desklink_unpack_bits.Reads as reads
-use Rattle.desklink.proofs.desklink_unpack_bits.Lts as lts
-use Rattle.packing.proofs.unpack_bits.Reads as unpack-bits-reads
-use Rattle.desklink.proofs.status_code.Reads as status-code-reads
 
 unpack-bits-requires : tie.Need-unpack-bits-requires
 unpack-bits-requires c κs = search needs

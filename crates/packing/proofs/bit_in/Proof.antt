@@ -5,8 +5,6 @@ use Rattle.bits.proofs.Digits.{bits-at}
 use borrow.Author.Needs.{needs}
 use Rattle.packing.proofs.bit_in.Statement.{statement}
 use Rattle.packing.proofs.bit_in.Tie as tie
-use Rattle.packing.proofs.bit_in.Reads as reads
-use Rattle.packing.proofs.bit_in.Lts as lts
 
 shared-slice-read-byte : tie.Need-shared-slice-read-byte
 shared-slice-read-byte c = search needs

@@ -1,5 +1,4 @@
 -- `packing::unpack_bits` meets its contract: the bytes' number is tested, and then every bit is written. Assumes nothing.
-use mathlib.Core.Path.{_≡_}
 use Prim.Native.Nat.{_<_, _≤_}
 use native.Mathlib.Omega.{arith}
 use lib.ListN.{length}

@@ -10,9 +10,6 @@ use Rattle.packing.proofs.Lists.{unpack-more}
 use borrow.Author.Needs.{needs}
 use Rattle.packing.proofs.write_bits.Statement.{statement}
 use Rattle.packing.proofs.write_bits.Tie as tie
-use Rattle.packing.proofs.write_bits.Reads as reads
-use Rattle.packing.proofs.write_bits.Lts as lts
-use Rattle.packing.proofs.bit_in.Reads as bit-in-reads
 
 abbrev Inv-loop : tie.InvT-loop
 Inv-loop bytes word₀ i₀ word i = (i ≤ length word) × (length word ≡ length word₀) × (take i word ≡ take i (bits bytes))

@@ -8,9 +8,6 @@ use Rattle.packing.proofs.Lists.{pack-more, pack-done}
 use borrow.Author.Needs.{needs}
 use Rattle.packing.proofs.write_bytes.Statement.{statement}
 use Rattle.packing.proofs.write_bytes.Tie as tie
-use Rattle.packing.proofs.write_bytes.Reads as reads
-use Rattle.packing.proofs.write_bytes.Lts as lts
-use Rattle.text.proofs.byte_at.Reads as byte-at-reads
 
 abbrev Inv-loop : tie.InvT-loop
 Inv-loop word bytes₀ i₀ bytes i = (i ≤ length bytes) × (length bytes ≡ length bytes₀) × (take i bytes ≡ bytesFrom word 0 i)

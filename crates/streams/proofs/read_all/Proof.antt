@@ -1,16 +1,16 @@
--- `batchfigures::read_all` meets its contract. The invariant: what was read lies within the room. Each turn that goes on reads a byte at least.
+-- `streams::read_all` meets its contract. The invariant: what was read lies within the room. Each turn that goes on reads a byte or is one try more.
 use mathlib.Core.Path.{_≡_}
-use Prim.Native.Nat.{_-_, _≤_}
+use Prim.Native.Nat.{_+_, _-_, _≤_, _<_}
 use lib.ListN.{length}
 use borrow.Author.Needs.{needs}
-use Rattle.batchfigures.proofs.read_all.Statement.{statement}
-use Rattle.batchfigures.proofs.read_all.Tie as tie
+use Rattle.streams.proofs.read_all.Statement.{statement}
+use Rattle.streams.proofs.read_all.Tie as tie
 
 abbrev Inv-loop : tie.InvT-loop
-Inv-loop fd input₀ n₀ input n = (n ≤ length input) × (length input ≡ length input₀)
+Inv-loop fd input₀ n₀ tries₀ input n tries = (n ≤ length input) × (length input ≡ length input₀) × (0 < tries)
 
 abbrev μ-loop : tie.MeasureT-loop
-μ-loop fd input₀ n₀ input n = length input - n
+μ-loop fd input₀ n₀ tries₀ input n tries = length input - n + tries
 
 loop-holds : tie.Need-loop-holds Inv-loop μ-loop
 loop-holds c = search needs
@@ -27,12 +27,6 @@ part-read-end c = search needs
 read-requires : tie.Need-read-requires Inv-loop μ-loop
 read-requires c κs = search needs
 
-same-length : tie.Need-same-length Inv-loop μ-loop
-same-length c = search needs
-
-returns : tie.Need-returns Inv-loop μ-loop
-returns c = search needs
-
 sub-count : tie.Need-sub-count Inv-loop μ-loop
 sub-count c = search needs
 
@@ -44,6 +38,15 @@ part-count-end c = search needs
 
 count-requires : tie.Need-count-requires Inv-loop μ-loop
 count-requires c κs = search needs
+
+tries-left-requires : tie.Need-tries-left-requires Inv-loop μ-loop
+tries-left-requires c κs = search needs
+
+same-length : tie.Need-same-length Inv-loop μ-loop
+same-length c = search needs
+
+returns : tie.Need-returns Inv-loop μ-loop
+returns c = search needs
 
 add-n : tie.Need-add-n Inv-loop μ-loop
 add-n c = search needs
@@ -77,12 +80,13 @@ read-all-spec =
     part-read-start
     part-read-end
     read-requires
-    same-length
-    returns
     sub-count
     part-count-start
     part-count-end
     count-requires
+    tries-left-requires
+    same-length
+    returns
     add-n
     loop-less
     loop-again
