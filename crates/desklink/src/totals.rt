@@ -1,53 +1,11 @@
 // Reception figures: a total is four numbers and a fraction two, each lent by itself.
-use crate::refusal_code;
-use figures::Figure;
-use figures::Summed;
 use figures::Totals;
 ghost use Rattle.refusal.specs.Outcome.{judged};
 ghost use Rattle.batch.specs.Pairs.{pairsOf};
 ghost use Rattle.figures.specs.Fraction.{lowest};
-ghost use Rattle.figures.specs.Totals.{summedOf, figureOf, joinRefusals, sums, fractionRefusals};
+ghost use Rattle.figures.specs.Totals.{joinRefusals, sums, fractionRefusals};
 ghost use Rattle.batch_figures.specs.Results.{results, added};
-ghost use Rattle.desklink.specs.Figures.{totals, fraction, Writes};
-
-// 0, with the new total written, or minus a refusal's number.
-fn summed_code(
-    answer: Summed,
-    frames: &mut u32,
-    clean: &mut u64,
-    counts: &mut u64,
-    rounds: &mut u64,
-) -> i32
-    ensures { λ n. ⌜ Writes (summedOf answer) n
-        (totals (now (frames .entry)) (now (clean .entry)) (now (counts .entry)) (now (rounds .entry)))
-        (totals (now (frames .exit)) (now (clean .exit)) (now (counts .exit)) (now (rounds .exit))) ⌝ }
-{
-    match answer {
-        Summed::Is(total) => {
-            *frames = total.frames;
-            *clean = total.clean;
-            *counts = total.counts;
-            *rounds = total.rounds;
-            0
-        }
-        Summed::Refused(r) => refusal_code(r),
-    }
-}
-
-// 0, with the fraction written, or minus a refusal's number.
-fn figure_code(answer: Figure, over: &mut u64, under: &mut u64) -> i32
-    ensures { λ n. ⌜ Writes (figureOf answer) n
-        (fraction (now (over .entry)) (now (under .entry))) (fraction (now (over .exit)) (now (under .exit))) ⌝ }
-{
-    match answer {
-        Figure::Fraction(n, d) => {
-            *over = n;
-            *under = d;
-            0
-        }
-        Figure::Refused(r) => refusal_code(r),
-    }
-}
+ghost use Rattle.coded.specs.Figures.{totals, fraction, Writes};
 
 // The total with the frames of a batch: of its values and pairs, and of what its call left.
 #[no_mangle]
@@ -77,7 +35,7 @@ pub extern "C" fn desklink_totals_add_unguarded(
         rounds: *round_sum,
     };
     let sum = batch_figures::add_batch(total, code, values, pairs, bits, counts, rounds);
-    summed_code(sum, frames, clean, count_sum, round_sum)
+    coded::summed_code(sum, frames, clean, count_sum, round_sum)
 }
 
 // The totals of the frames of both.
@@ -109,7 +67,7 @@ pub extern "C" fn desklink_totals_join_unguarded(
         counts: more_counts,
         rounds: more_rounds,
     };
-    summed_code(figures::join(total, more), frames, clean, counts, rounds)
+    coded::summed_code(figures::join(total, more), frames, clean, counts, rounds)
 }
 
 // The share of clean frames.
@@ -129,7 +87,7 @@ pub extern "C" fn desklink_clean_share_unguarded(
         counts: 0,
         rounds: 0,
     };
-    figure_code(figures::clean_share(total), over, under)
+    coded::figure_code(figures::clean_share(total), over, under)
 }
 
 // The mean count of a frame.
@@ -149,5 +107,5 @@ pub extern "C" fn desklink_mean_count_unguarded(
         counts,
         rounds: 0,
     };
-    figure_code(figures::mean_count(total), over, under)
+    coded::figure_code(figures::mean_count(total), over, under)
 }

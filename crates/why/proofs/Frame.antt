@@ -16,7 +16,7 @@ use Rattle.reason.specs.declared.Reason.{Reason}
 use Rattle.reason.specs.Reasons.{checksOf, reasonUnder}
 use Rattle.reason.specs.Holds.{Holds, byNan, byCheck, byChecksum, isClean}
 use Rattle.reason.proofs.Holds.{under-holds}
-use Rattle.why.specs.Lines.{reasonLine, Named}
+use Rattle.reason_text.specs.Lines.{reasonLine, Named}
 use Rattle.why.specs.Why.{frameLine}
 
 named-by : (code : ℕ) (values : List Float) (word : Word) {r : Reason} → Holds code values word r → Named (checksOf code) r

@@ -1,6 +1,3 @@
-pub mod Lengths
-pub mod Steps
-pub mod Tables
 pub mod Asked
 pub mod Frame
 pub mod Whole

@@ -14,7 +14,7 @@ use Rattle.reason.specs.declared.Reason.{Reason}
 use Rattle.reason.specs.declared.Reason.the-variants.{Nan, Check, Checksum, Clean}
 use Rattle.reason.specs.Reasons.{checksOf, reasonUnder}
 use Rattle.reason.proofs.Holds.{under-holds, clean-exactly}
-use Rattle.why.specs.Lines.{nanLine, checkLine, checksumLine, cleanLine, reasonLine}
+use Rattle.reason_text.specs.Lines.{nanLine, checkLine, checksumLine, cleanLine, reasonLine}
 use Rattle.why.specs.Why.{whyRefusals, frameLine, whyOf}
 use Rattle.why.specs.Promise.{Accepted, batchAsked, valuesAsked, wordAsked, cleanAsked, Explains, CleanPrinted}
 

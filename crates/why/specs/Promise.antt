@@ -14,7 +14,7 @@ use Rattle.batch_input.specs.Handed.{batchIn}
 use Rattle.reason.specs.declared.Reason.{Reason}
 use Rattle.reason.specs.Reasons.{checksOf}
 use Rattle.reason.specs.Holds.{Holds}
-use Rattle.why.specs.Lines.{reasonLine, cleanLine}
+use Rattle.reason_text.specs.Lines.{reasonLine, cleanLine}
 use Rattle.why.specs.Why.{placeOf, batchOf, whyRefusals, frameAt, whyOf}
 
 -- an input that is not refused

@@ -12,7 +12,7 @@ use Rattle.batch.specs.Calls.{Batch, refusals, frames, frameDecode}
 use Rattle.batch_input.specs.Input.{u16At, pairCount}
 use Rattle.batch_input.specs.Handed.{batchIn, inputRefusals}
 use Rattle.reason.specs.Reasons.{checksOf, reasonUnder}
-use Rattle.why.specs.Lines.{reasonLine}
+use Rattle.reason_text.specs.Lines.{reasonLine}
 
 -- ---- the input
 

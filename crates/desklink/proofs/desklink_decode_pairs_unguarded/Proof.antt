@@ -34,11 +34,11 @@ use Rattle.records.proofs.decode_pairs as pairs
 use Rattle.records.proofs.decode_pairs.Symbol as pairs-def
 use Rattle.records.proofs.decode_pairs.Symbol.{name as #records·decode-pairs}
 use Rattle.records.proofs.decode_pairs.Met as pairs-thm
-use Rattle.desklink.specs.Coded.{codedUnit}
-use Rattle.desklink.proofs.status_code as told
-use Rattle.desklink.proofs.status_code.Symbol as told-def
-use Rattle.desklink.proofs.status_code.Symbol.{name as #desklink·status-code}
-use Rattle.desklink.proofs.status_code.Met as told-thm
+use Rattle.coded.specs.Coded.{codedUnit}
+use Rattle.coded.proofs.status_code as told
+use Rattle.coded.proofs.status_code.Symbol as told-def
+use Rattle.coded.proofs.status_code.Symbol.{name as #coded·status-code}
+use Rattle.coded.proofs.status_code.Met as told-thm
 use Rattle.desklink.proofs.desklink_decode_pairs_unguarded.Key.{name as #desklink·desklink-decode-pairs-unguarded}
 use Rattle.desklink.proofs.desklink_decode_pairs_unguarded as this
 use Rattle.desklink.proofs.desklink_decode_pairs_unguarded.Statement as stated
@@ -46,7 +46,7 @@ use Rattle.desklink.proofs.desklink_decode_pairs_unguarded.Code as code
 
 module _ {M : Type 1} (𝓤 : URA M) (H : Heap 𝓤) (A : Atoms 𝓤) (W : Given 𝓤 H A) (mem : Memory → SProp 𝓤) (run : Routine → Fun 𝓤) (𝓣 : Tables 𝓤 H)
     (known-pairs : Triple 𝓤 (𝓣 .C #records·decode-pairs) (Callee 𝓤 H A pairs.ended (pairs.clauses 𝓤 H A mem run)))
-    (known-told : Triple 𝓤 (𝓣 .C #desklink·status-code) (Callee 𝓤 H A told.ended (told.clauses 𝓤 H A mem run))) where
+    (known-told : Triple 𝓤 (𝓣 .C #coded·status-code) (Callee 𝓤 H A told.ended (told.clauses 𝓤 H A mem run))) where
   module _ (n : Numbers) (h : Handles) (vs : List Float) (ys : List Pair) (m : Lent) (sizes : Sizes vs ys m) where
     abbrev B : Batch
     B = handed n vs ys m
@@ -87,5 +87,5 @@ desklink-decode-pairs-unguarded-spec 𝓤 H 𝓜 𝓖 𝓡 =
     (meets 𝓤 H (𝓖 .A) (givenOf 𝓤 H 𝓜 𝓖) (𝓜 .mem) (𝓡 .run) (tablesOf 𝓤 H 𝓜 (tables 𝓤 H 𝓜 𝓡 code-of.env))
     (cited 𝓤 H (Callee 𝓤 H (𝓖 .A) pairs.ended (pairs.clauses 𝓤 H (𝓖 .A) (𝓜 .mem) (𝓡 .run))) 𝓜 𝓡 code-of.env #records·decode-pairs pairs-def.routine
     code-of.calls-records·decode-pairs (pairs-thm.met 𝓤 H 𝓜 𝓖 𝓡))
-    (cited 𝓤 H (Callee 𝓤 H (𝓖 .A) told.ended (told.clauses 𝓤 H (𝓖 .A) (𝓜 .mem) (𝓡 .run))) 𝓜 𝓡 code-of.env #desklink·status-code told-def.routine
-    code-of.calls-desklink·status-code (told-thm.met 𝓤 H 𝓜 𝓖 𝓡)))
+    (cited 𝓤 H (Callee 𝓤 H (𝓖 .A) told.ended (told.clauses 𝓤 H (𝓖 .A) (𝓜 .mem) (𝓡 .run))) 𝓜 𝓡 code-of.env #coded·status-code told-def.routine
+    code-of.calls-coded·status-code (told-thm.met 𝓤 H 𝓜 𝓖 𝓡)))

@@ -1,7 +1,7 @@
 -- `desklink::desklink_encode` meets its contract: the call beneath, its answer told as a number. Assumes nothing.
 use mathlib.Core.Path.{ap, _∙_}
-use Rattle.desklink.specs.Coded.{codedUnit}
-use Rattle.desklink.proofs.Signed.{read-back}
+use Rattle.coded.specs.Coded.{codedUnit}
+use Rattle.coded.proofs.Signed.{read-back}
 use borrow.Author.Needs.{needs}
 use Rattle.desklink.proofs.desklink_encode.Statement.{statement}
 use Rattle.desklink.proofs.desklink_encode.Tie as tie

@@ -1,7 +1,7 @@
 -- `desklink::desklink_ft8_add_crc` meets its contract: the answer of the call beneath, as a number. Assumes nothing.
 use mathlib.Core.Path.{ap, _∙_}
-use Rattle.desklink.proofs.Signed.{read-back}
-use Rattle.desklink.specs.Coded.{codedUnit}
+use Rattle.coded.proofs.Signed.{read-back}
+use Rattle.coded.specs.Coded.{codedUnit}
 use borrow.Author.Needs.{needs}
 use Rattle.desklink.proofs.desklink_ft8_add_crc.Statement.{statement}
 use Rattle.desklink.proofs.desklink_ft8_add_crc.Tie as tie

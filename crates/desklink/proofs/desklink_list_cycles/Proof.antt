@@ -2,7 +2,7 @@
 use native.Mathlib.Omega.{arith}
 use Rattle.cycles.specs.Calls.{cycleRefusals, reportBy}
 use Rattle.cycles.proofs.Codes.{few-cycles}
-use Rattle.desklink.proofs.Signed.{read-back}
+use Rattle.coded.proofs.Signed.{read-back}
 use Rattle.desklink.proofs.Told.{list-told, told-few}
 use borrow.Author.Needs.{needs}
 use Rattle.desklink.proofs.desklink_list_cycles.Statement.{statement}
