@@ -26,5 +26,6 @@ pub pack-done : (word bytes : List ℕ) (i : ℕ) → length bytes ≤ i → i �
 unfolding packedWord
 pack-done word bytes i h k e so = let end : i ≡ bytesFor (length word) = omega arith in sym (take-all i bytes h) ∙ so ∙ ap (bytesFrom word 0) end
 
-pub unpack-more : (bits word : List ℕ) (i b : ℕ) → i < length word → i < length bits → b ≡ getD bits i 0 → take i word ≡ take i bits → take (i + 1) (set word i b) ≡ take (i + 1) bits
+pub unpack-more : (bits word : List ℕ) (i b : ℕ) → i < length word → i < length bits → b ≡ getD bits i 0 → take i word ≡ take i bits
+    → take (i + 1) (set word i b) ≡ take (i + 1) bits
 unpack-more bits word i b h k e so = rw (add-one, take-suc-set word i b h, take-suc bits i 0 k, e, so) refl

@@ -16,7 +16,11 @@ same-length : tie.Need-same-length
 same-length c = search needs
 
 returns : tie.Need-returns
-returns c = (read-back (record { sfits = c .status-code .ok }) ∙ c .status-code .ensures ∙ ap codedUnit (c .before .before .before .pack-bits .ensures .0), c .before .before .before .pack-bits .ensures .1)
+returns c = (
+  read-back (record { sfits = c .status-code .ok }) ∙ c .status-code .ensures
+      ∙ ap codedUnit (c .before .before .before .pack-bits .ensures .0),
+  c .before .before .before .pack-bits .ensures .1,
+)
 
 pub desklink-pack-bits-spec : {M : Type 1} → statement M
 desklink-pack-bits-spec = tie.close (tie.spec pack-bits-requires status-code-requires same-length returns)

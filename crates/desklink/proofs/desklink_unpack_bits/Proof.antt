@@ -16,7 +16,11 @@ same-length : tie.Need-same-length
 same-length c = search needs
 
 returns : tie.Need-returns
-returns c = (read-back (record { sfits = c .status-code .ok }) ∙ c .status-code .ensures ∙ ap codedUnit (c .before .before .before .unpack-bits .ensures .0), c .before .before .before .unpack-bits .ensures .1)
+returns c = (
+  read-back (record { sfits = c .status-code .ok }) ∙ c .status-code .ensures
+      ∙ ap codedUnit (c .before .before .before .unpack-bits .ensures .0),
+  c .before .before .before .unpack-bits .ensures .1,
+)
 
 pub desklink-unpack-bits-spec : {M : Type 1} → statement M
 desklink-unpack-bits-spec = tie.close (tie.spec unpack-bits-requires status-code-requires same-length returns)
