@@ -21,8 +21,8 @@ pub pack-more : (word bytes : List ℕ) (i b : ℕ) → i < length bytes → b �
     → take (i + 1) (set bytes i b) ≡ bytesFrom word 0 (i + 1)
 pack-more word bytes i b h e so = rw (add-one, take-suc-set bytes i b h, bytes-more word 0 i, zero-add, e, so) refl
 
-pub pack-done : (word bytes : List ℕ) (i : ℕ) → length bytes ≤ i → i ≤ length bytes → length bytes ≡ bytesFor (length word) → take i bytes ≡ bytesFrom word 0 i
-    → bytes ≡ packedWord word
+pub pack-done : (word bytes : List ℕ) (i : ℕ) → length bytes ≤ i → i ≤ length bytes → length bytes ≡ bytesFor (length word)
+    → take i bytes ≡ bytesFrom word 0 i → bytes ≡ packedWord word
 unfolding packedWord
 pack-done word bytes i h k e so = let end : i ≡ bytesFor (length word) = omega arith in sym (take-all i bytes h) ∙ so ∙ ap (bytesFrom word 0) end
 

@@ -2,9 +2,9 @@
 use mathlib.Core.Path.{_≡_}
 use mathlib.Core.Bool.{not}
 use mathlib.Core.List.{List, [], _∷_, map}
-use Prim.Native.Nat.{ℕ, zero, suc, _+_, _/_, _%_}
+use Prim.Native.Nat.{ℕ, zero, suc, _+_, _/_, _%_, _≤_, _<_}
 use lib.Dec.{eqb, ltb}
-use lib.ListN.{length, take}
+use lib.ListN.{length, take, getD}
 use Rattle.refusal.specs.Outcome.{Condition, _when_}
 use Rattle.text.specs.Text.{byteAt}
 use Rattle.bits.specs.Bits.{bits}
@@ -37,3 +37,9 @@ unpackRefusals bytes word = (4 when ltb (length bytes) (bytesFor (length word)))
 -- packed and taken out again, a word has its bits
 abbrev pub Undone : List ℕ → Type 0
 Undone word = unpackedWord (length word) (packedWord word) ≡ map (λ b. b % 2) word
+
+-- taken out and packed again, the bytes of n bits are what they were, where each is a byte and all bits past the n are zeros
+abbrev pub Repacked : List ℕ → ℕ → Type 0
+Repacked bytes n =
+    length bytes ≡ bytesFor n → ((k : ℕ) → getD bytes k 0 < 256) → ((i : ℕ) → n ≤ i → getD (bits bytes) i 0 ≡ 0)
+    → packedWord (unpackedWord n bytes) ≡ bytes

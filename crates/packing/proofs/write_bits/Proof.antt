@@ -38,7 +38,8 @@ loop-again c =
     let bytes = turn .before .before .before .args .bytes .now in
     let now = turn .loop in
     let long = bits-length bytes in
-    (simp length-set (omega arith), simp length-set (omega arith), unpack-more (bits bytes) now.word now.i _ (omega arith) (omega arith) (c .bit-in .ensures) (now .inv .2))
+    let more = unpack-more (bits bytes) now.word now.i _ (omega arith) (omega arith) (c .bit-in .ensures) (now .inv .2) in
+    (simp length-set (omega arith), simp length-set (omega arith), more)
 
 same-length : tie.Need-same-length Inv-loop μ-loop
 same-length c = search needs
