@@ -1,4 +1,4 @@
-//! The README's table names every call of the header. (That its picture names every crate is the gate's first step.)
+//! The README's table names every call of the header, and the version is one. (That the picture names every crate is the gate's first step.)
 
 const README: &str = include_str!("../../README.md");
 const HEADER: &str = include_str!("../../include/desklink.h");
@@ -18,4 +18,11 @@ fn every_call_is_in_the_table() {
     for name in names {
         assert!(said.contains(&name), "the README's table has no {name}");
     }
+}
+
+#[test]
+fn the_version_is_one() {
+    const VERSION: &str = env!("CARGO_PKG_VERSION");
+    assert!(HEADER.contains(&format!("#define DESKLINK_VERSION \"{VERSION}\"\n")), "the header has another version than {VERSION}");
+    assert!(include_str!("../../CHANGELOG.md").contains(&format!("\n## {VERSION}\n")), "CHANGELOG.md says nothing of {VERSION}");
 }
