@@ -11,7 +11,7 @@ use lib.Seq.{take-at, drop-at, drop-drop, drop-cons, take-all, length-take-le}
 use Rattle.softmath.specs.declared.DecodeRule.{DecodeRule}
 use Rattle.tanner.specs.Flat.{joined}
 use Rattle.belief.specs.Chosen.{Chose}
-use Rattle.belief.specs.Graph.{cleared}
+use Rattle.belief.specs.Area.{cleared}
 use Rattle.belief.proofs.Fill.{fill-more, fill-done}
 use Rattle.softmath.specs.Single.{zero32}
 use Rattle.staircase.specs.Codes.{codeOf}

@@ -40,7 +40,7 @@ use Rattle.belief.specs.Rounds.{
   chosenBits,
   roundsRun,
 }
-use Rattle.belief.proofs.AtGraph.{initial-bits, initial-length, word-bits}
+use Rattle.belief.proofs.BitWords.{initial-bits, initial-length, word-bits}
 use Rattle.belief.proofs.Words.{chosen-first, count-falls, same-chosen}
 use Rattle.belief.proofs.RoundsRun.{rounds-lesser, rounds-within}
 use Rattle.batch.specs.Codes.{sizeN, sizeK, decodeBy, encodingBy}

@@ -10,7 +10,7 @@ use Rattle.refusal.specs.Outcome.{Outcome, Condition, _when_, judged, kept}
 use Rattle.tanner.specs.Checks.{First, check, none}
 use Rattle.tanner.specs.Flat.{joined}
 use Rattle.belief.specs.Rounds.{Decode, roundsRun, chosenCount, chosenFirst, chosenBits}
-use Rattle.belief.specs.Graph.{cleared}
+use Rattle.belief.specs.Area.{cleared}
 use Rattle.batch.specs.Codes.{sizeN, sizeK, decodeOf}
 use Rattle.batch.specs.Pairs.{Pair, framesOf}
 use Rattle.batch.specs.declared.Room.{Room}

@@ -8,7 +8,7 @@ use lib.ListN.{length, take, drop, set}
 use Rattle.refusal.specs.Outcome.{Outcome, accepted, refused, judged}
 use Rattle.refusal.specs.Numbers.{numberOf}
 use Rattle.belief.specs.Rounds.{Decode, roundsRun, chosenCount, chosenFirst, chosenBits}
-use Rattle.belief.specs.Graph.{cleared}
+use Rattle.belief.specs.Area.{cleared}
 use Rattle.batch.specs.Codes.{sizeN, sizeK}
 use Rattle.batch.specs.Pairs.{Pair, AllWithin}
 use Rattle.batch.specs.Calls.{Lent, Batch, pairTests, placeOf}

@@ -11,7 +11,7 @@ ghost use Rattle.refusal.specs.Outcome.{judged};
 ghost use Rattle.refusal.specs.Answers.{statusOf};
 ghost use Rattle.tanner.specs.Found.{firstOf};
 ghost use Rattle.belief.specs.Chosen.{Chose};
-ghost use Rattle.belief.specs.Graph.{cleared};
+ghost use Rattle.belief.specs.Area.{cleared};
 ghost use Rattle.batch.specs.Codes.{sizeN, sizeK, decodeOf};
 ghost use Rattle.batch.specs.Pairs.{pair, pairsOf, frameOf};
 ghost use Rattle.batch.specs.Calls.{lent, batch, ruleNotOfCode, pairTests, pairRefusals, headRefusals, refusalsOf, placeOf, written, asStored, Answered};

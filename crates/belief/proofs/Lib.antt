@@ -1,9 +1,11 @@
 pub mod Words
 pub mod Fill
-pub mod Checks
+pub mod BitWords
+pub mod Held
+pub mod Answers
+pub mod First
 pub mod Bits
-pub mod AtGraph
+pub mod RoundHeld
 pub mod Loop
 pub mod Whole
-pub mod Laid
 pub mod RoundsRun

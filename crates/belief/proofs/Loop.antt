@@ -15,14 +15,17 @@ use Rattle.tanner.specs.Flat.{Below}
 use Rattle.tanner.proofs.First.{both}
 use Rattle.tanner.specs.declared.Counted.{Counted}
 use Rattle.tanner.specs.declared.FirstCheck.{FirstCheck}
-use Rattle.belief.specs.Rounds.{Decode, decided, firstMessages, initialWord, wordsFrom, roundWords, roundsRun, unlessDone, better, chosenFrom, chosen, chosenCount, chosenFirst, chosenBits}
+use Rattle.belief.specs.Rounds.{Decode, answers, decided, sent, firstMessages, initialWord, wordsFrom, roundWords, roundsRun, unlessDone, better, chosenFrom, chosen, chosenCount, chosenFirst, chosenBits}
 use Rattle.belief.specs.Chosen.{Told, toldBy, told, Chose}
-use Rattle.belief.specs.Graph.{RoundDone, Kept, Ran, countedOf}
+use Rattle.belief.specs.Run.{Holds, RoundDone, Kept, Ran, countedOf}
 use Rattle.belief.specs.declared.Decoded.{Decoded}
-use Rattle.belief.proofs.AtGraph.{word-bits, masked-word}
+use Rattle.belief.proofs.BitWords.{word-bits, masked-word}
 
--- with `left` rounds to go from the messages ms, after `done` of them: the kept word, that the choice from here is the goal, and that the rounds are `all`
-pub record Running (d : Decode) (k left : ℕ) (ms : List Float) (bits : List ℕ) (kept : Counted) (done : ℕ) (goal : Word) (all : ℕ) : Type 0 where
+-- with `left` rounds to go, after `done` of them: the messages that the work area holds, the kept word, that the choice from here is the goal, and that the
+-- rounds are `all`
+pub record Running (d : Decode) (m g k left : ℕ) (work : List Float) (bits : List ℕ) (kept : Counted) (done : ℕ) (goal : Word) (all : ℕ) : Type 0 where
+  pub ms : List Float
+  pub holds : Holds (d .checks) m g work ms
   pub word : Word
   pub held : Kept (d .checks) k word bits kept
   pub ahead : chosenFrom (d .checks) word (wordsFrom d left ms) ≡ goal
@@ -34,7 +37,7 @@ count-of cs k word bits kept h = ap (λ (s : Syndrome). s .count) (h .counted)
 -- ---- the word of a round, kept or not
 
 -- what the round counts is what the mask counts, and so is what is found then
-module _ (d : Decode) (ms next : List Float) (w : Word) (found : ℕ) (r : RoundDone d ms next w found) where
+module _ (d : Decode) (m g : ℕ) (ms next : List Float) (w : Word) (found : ℕ) (r : RoundDone d m g ms next w found) where
   masked : syndromeMasked 1 (d .checks) w ≡ syndrome (d .checks) w
   masked = masked-word (d .checks) w (subst (λ (v : Word). Below 2 v) (sym (r .decision)) (word-bits d _))
 
@@ -57,21 +60,31 @@ module _ (cs : Checks) (k : ℕ) (word w : Word) (bits bits' : List ℕ) (kept k
 
 -- ---- a turn
 
-module _ (d : Decode) (k left : ℕ) (ms next : List Float) (w : Word) (bits bits' : List ℕ) (kept kept' : Counted) (found done : ℕ) (goal : Word) (all : ℕ)
-    (s : Running d k (suc left) ms bits kept done goal all) (r : RoundDone d ms next w found) (b : Kept (d .checks) k (better (d .checks) (s .word) w) bits' kept') where
+module _ (d : Decode) (m g k left : ℕ) (work next : List Float) (w : Word) (bits bits' : List ℕ) (kept kept' : Counted) (found done : ℕ) (goal : Word) (all : ℕ)
+    (s : Running d m g k (suc left) work bits kept done goal all) (r : RoundDone d m g (s .ms) next w found) (b : Kept (d .checks) k (better (d .checks) (s .word) w) bits' kept') where
   -- the round's word is next
-  opened : chosenFrom (d .checks) (better (d .checks) (s .word) w) (unlessDone d w (wordsFrom d left next)) ≡ goal
+  abbrev after : List Float
+  after = sent d (answers d (s .ms))
+
+  opened : chosenFrom (d .checks) (better (d .checks) (s .word) w) (unlessDone d w (wordsFrom d left after)) ≡ goal
   unfolding wordsFrom chosenFrom
-  opened = rw (r .decision, r .messages) (s .ahead)
+  opened = rw (r .decision) (s .ahead)
 
-  counted-off : done + suc (length (unlessDone d w (wordsFrom d left next))) ≡ all
+  counted-off : done + suc (length (unlessDone d w (wordsFrom d left after))) ≡ all
   unfolding wordsFrom
-  counted-off = rw (r .decision, r .messages) (s .run)
+  counted-off = rw (r .decision) (s .run)
 
-  pub round-on : (found ≡ 0 → ⊥) → Running d k left next bits' kept' (done + 1) goal all
+  pub round-on : (found ≡ 0 → ⊥) → Running d m g k left next bits' kept' (done + 1) goal all
   round-on n =
       let t : eqb (count (d .checks) w) 0 ≡ false = ne-eqb (count (d .checks) w) 0 (λ e. n (r .counted ∙ e)) in
-      record { word = better (d .checks) (s .word) w; held = b; ahead = rw t at opened; run = omega (arith, rw t at counted-off) }
+      record {
+        ms = after;
+        holds = r .messages;
+        word = better (d .checks) (s .word) w;
+        held = b;
+        ahead = rw t at opened;
+        run = omega (arith, rw t at counted-off);
+      }
 
   pub round-out : found ≡ 0 → Kept (d .checks) k goal bits' kept' × (done + 1 ≡ all)
   unfolding chosenFrom
@@ -79,10 +92,10 @@ module _ (d : Decode) (k left : ℕ) (ms next : List Float) (w : Word) (bits bit
       let t : eqb (count (d .checks) w) 0 ≡ true = eq-eqb (count (d .checks) w) 0 (sym (r .counted) ∙ e) in
       (subst (λ (v : Word). Kept (d .checks) k v bits' kept') (rw t at opened) b, omega (arith, rw t at counted-off))
 
-pub rounds-out : (d : Decode) (k : ℕ) (ms : List Float) (bits : List ℕ) (kept : Counted) (done : ℕ) (goal : Word) (all : ℕ)
-    → Running d k 0 ms bits kept done goal all → Kept (d .checks) k goal bits kept × (done ≡ all)
+pub rounds-out : (d : Decode) (m g k : ℕ) (work : List Float) (bits : List ℕ) (kept : Counted) (done : ℕ) (goal : Word) (all : ℕ)
+    → Running d m g k 0 work bits kept done goal all → Kept (d .checks) k goal bits kept × (done ≡ all)
 unfolding wordsFrom chosenFrom
-rounds-out d k ms bits kept done goal all s = (subst (λ (v : Word). Kept (d .checks) k v bits kept) (s .ahead) (s .held), omega (arith, s .run))
+rounds-out d m g k work bits kept done goal all s = (subst (λ (v : Word). Kept (d .checks) k v bits kept) (s .ahead) (s .held), omega (arith, s .run))
 
 -- ---- the whole decode: no round where the initial word satisfies every check
 

@@ -1,5 +1,5 @@
 pub mod Rounds
-pub mod Chosen
-pub mod Graph
-pub mod Passes
 pub mod RoundsRun
+pub mod Chosen
+pub mod Area
+pub mod Run

@@ -1,20 +1,19 @@
-// The round loop that both decoders run, over any check list, decode rule and kind of new messages: one f32 an edge in a lent work area.
+// The round loop that both decoders run, at the code with a given number and by any decode rule: the messages lie by slots in a lent work area.
 ghost use mathlib.Core.Path.{_≡_};
-ghost use mathlib.Core.List.{_++_, map};
-ghost use Prim.Native.Nat.{ℕ, _<_, _≤_};
-ghost use lib.Ieee.{nan};
-ghost use lib.ListN.{length, getD, take, drop, replicate};
+ghost use mathlib.Core.List.{List, map};
+ghost use Prim.Native.Nat.{_<_, _≤_};
+ghost use lib.Ieee.{Float};
+ghost use lib.ListN.{length, take, replicate};
 ghost use Rattle.softmath.specs.Single.{zero32};
 ghost use Rattle.softmath.specs.Functions.{decide};
-ghost use Rattle.softmath.specs.CheckNode.{before, middle, after};
-ghost use Rattle.tanner.specs.Checks.{count};
-ghost use Rattle.tanner.specs.Flat.{Below, Within, rowsOf};
-ghost use Rattle.belief.specs.Graph.{Graph, RoundDone, Kept, Ran, decodeAt, cleared};
+ghost use Rattle.tanner.specs.Checks.{countMasked, syndromeMasked};
+ghost use Rattle.tanner.specs.Found.{syndromeOf};
+ghost use Rattle.passes.specs.Codes.{sizeN, checksBy, room};
+ghost use Rattle.belief.specs.Area.{cleared};
 ghost use Rattle.belief.specs.Chosen.{Chose};
-ghost use Rattle.belief.specs.Rounds.{answers, decided, sent, initialWord, firstMessages};
-ghost use Rattle.belief.specs.Passes.{onFrom, turns, bitTurn, passOf, BitsWithin};
+ghost use Rattle.belief.specs.Rounds.{initialWord};
+ghost use Rattle.belief.specs.Run.{decodeAt, HeldBy, RoundBy, Kept, Ran};
 use softmath::DecodeRule;
-use softmath::SumKind;
 use tanner::Counted;
 use tanner::FirstCheck;
 
@@ -42,94 +41,32 @@ fn initial_word(llr: &[f32], hard: &mut [u8])
     }
 }
 
-// Each edge's message: the channel value of its position.
-fn first_messages(check_bits: &[u16], llr: &[f32], messages: &mut [f32])
-    requires { ⌜ Below (length (now llr)) (now «check_bits») ⌝ }
-    requires { ⌜ length (now messages) ≡ length (now «check_bits») ⌝ }
-    ensures { λ _. ⌜ now (messages .exit) ≡ map (λ p. getD (now (llr .entry)) p nan) (now («check_bits» .entry)) ⌝ }
+// The count of a word's low bits, and the first check that it includes.
+fn counted(code: u32, hard: &[u8]) -> Counted
+    requires { ⌜ code < 4 ⌝ }
+    requires { ⌜ length (now hard) ≡ sizeN code ⌝ }
+    ensures { λ r. ⌜ syndromeOf r ≡ syndromeMasked 1 (checksBy code) (now (hard .entry)) ⌝ }
 {
-    let mut e = 0;
-    while e < check_bits.len() {
-        let p = check_bits[e] as usize;
-        messages[e] = llr[p];
-        e += 1;
-    }
+    let count = passes::count(code, hard);
+    let first = passes::first_counted(code, count, hard);
+    Counted { count, first }
 }
 
 // ---- a round
 
-// The rule at each check's messages, in their place.
-fn check_pass(rule: DecodeRule, check_start: &[u16], messages: &mut [f32])
-    requires { ⌜ 0 < length (now «check_start») ⌝ }
-    requires { ⌜ Within (now «check_start») (length (now messages)) ⌝ }
-    ensures { λ _. ⌜ now (messages .exit) ≡ onFrom (middle rule) (now («check_start» .entry)) 0 (now (messages .entry)) ⌝ }
-{
-    let mut c = 0;
-    while c + 1 < check_start.len() {
-        let a = check_start[c] as usize;
-        let b = check_start[c + 1] as usize;
-        softmath::at_check(rule, &mut messages[a..b]);
-        c += 1;
-    }
-}
-
-// The check step: each message by itself, each check's together, each answer by itself.
-fn answer_pass(rule: DecodeRule, check_start: &[u16], messages: &mut [f32])
-    requires { ⌜ 0 < length (now «check_start») ⌝ }
-    requires { ⌜ Within (now «check_start») (length (now messages)) ⌝ }
-    ensures { λ _. ⌜ now (messages .exit)
-        ≡ map (after rule) (onFrom (middle rule) (now («check_start» .entry)) 0 (map (before rule) (now (messages .entry)))) ⌝ }
-{
-    softmath::before_checks(rule, messages);
-    check_pass(rule, check_start, messages);
-    softmath::after_checks(rule, messages);
-}
-
-// Each bit's decision, and its new messages in the place of its answers.
-fn bit_pass(
-    kind: SumKind,
-    llr: &[f32],
-    bit_start: &[u16],
-    bit_edges: &[u16],
-    messages: &mut [f32],
-    hard: &mut [u8],
-)
-    requires { ⌜ BitsWithin (now «bit_start») (now «bit_edges») (length (now llr)) (length (now messages)) ⌝ }
-    requires { ⌜ length (now hard) ≡ length (now llr) ⌝ }
-    ensures { λ _. ⌜ passOf (now (hard .exit)) (now (messages .exit))
-        ≡ turns (bitTurn kind (now (llr .entry)) (now («bit_start» .entry)) (now («bit_edges» .entry))) (length (now (llr .entry)))
-        (passOf (now (hard .entry)) (now (messages .entry))) ⌝ }
-{
-    let mut b = 0;
-    while b < llr.len() {
-        let from = bit_start[b] as usize;
-        let to = bit_start[b + 1] as usize;
-        hard[b] = softmath::bit_step(kind, llr[b], messages, &bit_edges[from..to]);
-        b += 1;
-    }
-}
-
 // A round: check step, decision, new messages, and the count of the word decided.
-fn round(
-    rule: DecodeRule,
-    kind: SumKind,
-    check_start: &[u16],
-    check_bits: &[u16],
-    bit_start: &[u16],
-    bit_edges: &[u16],
-    llr: &[f32],
-    messages: &mut [f32],
-    hard: &mut [u8],
-) -> u16
-    requires { ⌜ Graph (now «check_start») (now «check_bits») (now «bit_start») (now «bit_edges») (length (now llr)) ⌝ }
-    requires { ⌜ length (now messages) ≡ length (now «check_bits») ⌝ }
-    requires { ⌜ length (now hard) ≡ length (now llr) ⌝ }
-    ensures { λ r. ⌜ RoundDone (decodeAt rule kind (now («check_start» .entry)) (now («check_bits» .entry)) (now (llr .entry)))
-        (now (messages .entry)) (now (messages .exit)) (now (hard .exit)) r ⌝ }
+fn round(code: u32, rule: DecodeRule, llr: &[f32], messages: &mut [f32], hard: &mut [u8]) -> u16
+    requires { ⌜ code < 4 ⌝ }
+    requires { ⌜ length (now llr) ≡ sizeN code ⌝ }
+    requires { ⌜ length (now messages) ≡ room code ⌝ }
+    requires { ⌜ length (now hard) ≡ sizeN code ⌝ }
+    ensures { λ r. ⌜ ((ms : List Float) → HeldBy code (now (messages .entry)) ms
+        → RoundBy code rule (now (llr .entry)) ms (now (messages .exit)) (now (hard .exit)) r) ⌝ }
+    ensures { λ r. ⌜ r ≡ countMasked 1 (checksBy code) (now (hard .exit)) ⌝ }
 {
-    answer_pass(rule, check_start, messages);
-    bit_pass(kind, llr, bit_start, bit_edges, messages, hard);
-    tanner::count_masked(check_start, check_bits, hard, 1)
+    passes::check_pass(code, rule, messages);
+    passes::bit_pass(code, llr, messages, hard);
+    passes::count(code, hard)
 }
 
 // ---- the decode
@@ -148,45 +85,32 @@ fn keep_word(hard: &[u8], bits: &mut [u8])
 
 // The rounds: left by `break` at the first word whose count is 0. `bits` keeps the front of the best word so far, and `first` is what was counted of it.
 fn rounds(
+    code: u32,
     rule: DecodeRule,
-    kind: SumKind,
     limit: u16,
-    check_start: &[u16],
-    check_bits: &[u16],
-    bit_start: &[u16],
-    bit_edges: &[u16],
     llr: &[f32],
     first: Counted,
     messages: &mut [f32],
     hard: &mut [u8],
     bits: &mut [u8],
 ) -> Decoded
-    requires { ⌜ Graph (now «check_start») (now «check_bits») (now «bit_start») (now «bit_edges») (length (now llr)) ⌝ }
-    requires { ⌜ length (now messages) ≡ length (now «check_bits») ⌝ }
-    requires { ⌜ length (now hard) ≡ length (now llr) ⌝ }
-    requires { ⌜ length (now bits) ≤ length (now llr) ⌝ }
-    requires { ⌜ Kept (rowsOf (now «check_start») (now «check_bits»)) (length (now bits)) (now hard) (now bits) first ⌝ }
-    ensures { λ r. ⌜ Ran (decodeAt rule kind (now («check_start» .entry)) (now («check_bits» .entry)) (now (llr .entry)))
-        (length (now (bits .entry))) limit (now (hard .entry)) (now (messages .entry)) (now (bits .exit)) r ⌝ }
+    requires { ⌜ code < 4 ⌝ }
+    requires { ⌜ length (now llr) ≡ sizeN code ⌝ }
+    requires { ⌜ length (now messages) ≡ room code ⌝ }
+    requires { ⌜ length (now hard) ≡ sizeN code ⌝ }
+    requires { ⌜ length (now bits) ≤ sizeN code ⌝ }
+    requires { ⌜ Kept (checksBy code) (length (now bits)) (now hard) (now bits) first ⌝ }
+    ensures { λ r. ⌜ ((ms : List Float) → HeldBy code (now (messages .entry)) ms
+        → Ran (decodeAt code rule (now (llr .entry))) (length (now (bits .entry))) limit (now (hard .entry)) ms (now (bits .exit)) r) ⌝ }
 {
     let mut kept = first;
     let mut done: u16 = 0;
     while done < limit {
-        let found = round(
-            rule,
-            kind,
-            check_start,
-            check_bits,
-            bit_start,
-            bit_edges,
-            llr,
-            messages,
-            hard,
-        );
+        let found = round(code, rule, llr, messages, hard);
         done += 1;
         if found < kept.count {
             keep_word(hard, bits);
-            let lowest = tanner::first_counted(found, check_start, check_bits, hard, 1);
+            let lowest = passes::first_counted(code, found, hard);
             kept = Counted {
                 count: found,
                 first: lowest,
@@ -206,26 +130,22 @@ fn rounds(
 
 // The rounds, unless the initial word, which `hard` and `bits` hold, satisfies every check.
 fn improve(
+    code: u32,
     rule: DecodeRule,
-    kind: SumKind,
     limit: u16,
-    check_start: &[u16],
-    check_bits: &[u16],
-    bit_start: &[u16],
-    bit_edges: &[u16],
     llr: &[f32],
     first: Counted,
     messages: &mut [f32],
     hard: &mut [u8],
     bits: &mut [u8],
 ) -> Decoded
-    requires { ⌜ Graph (now «check_start») (now «check_bits») (now «bit_start») (now «bit_edges») (length (now llr)) ⌝ }
-    requires { ⌜ length (now messages) ≡ length (now «check_bits») ⌝ }
-    requires { ⌜ now hard ≡ initialWord (decodeAt rule kind (now «check_start») (now «check_bits») (now llr)) ⌝ }
-    requires { ⌜ length (now bits) ≤ length (now llr) ⌝ }
-    requires { ⌜ Kept (rowsOf (now «check_start») (now «check_bits»)) (length (now bits)) (now hard) (now bits) first ⌝ }
-    ensures { λ r. ⌜ Chose (decodeAt rule kind (now («check_start» .entry)) (now («check_bits» .entry)) (now (llr .entry)))
-        limit (length (now (bits .entry))) r (now (bits .exit)) ⌝ }
+    requires { ⌜ code < 4 ⌝ }
+    requires { ⌜ length (now llr) ≡ sizeN code ⌝ }
+    requires { ⌜ length (now messages) ≡ room code ⌝ }
+    requires { ⌜ now hard ≡ initialWord (decodeAt code rule (now llr)) ⌝ }
+    requires { ⌜ length (now bits) ≤ sizeN code ⌝ }
+    requires { ⌜ Kept (checksBy code) (length (now bits)) (now hard) (now bits) first ⌝ }
+    ensures { λ r. ⌜ Chose (decodeAt code rule (now (llr .entry))) limit (length (now (bits .entry))) r (now (bits .exit)) ⌝ }
 {
     if first.count == 0 {
         return Decoded {
@@ -234,61 +154,31 @@ fn improve(
             first: FirstCheck::Satisfied,
         };
     }
-    first_messages(check_bits, llr, messages);
-    rounds(
-        rule,
-        kind,
-        limit,
-        check_start,
-        check_bits,
-        bit_start,
-        bit_edges,
-        llr,
-        first,
-        messages,
-        hard,
-        bits,
-    )
+    passes::first_messages(code, llr, messages);
+    rounds(code, rule, limit, llr, first, messages, hard, bits)
 }
 
 // The chosen word's front and what is told of it, from the channel values.
 fn choose(
+    code: u32,
     rule: DecodeRule,
-    kind: SumKind,
     limit: u16,
-    check_start: &[u16],
-    check_bits: &[u16],
-    bit_start: &[u16],
-    bit_edges: &[u16],
     llr: &[f32],
     messages: &mut [f32],
     hard: &mut [u8],
     bits: &mut [u8],
 ) -> Decoded
-    requires { ⌜ Graph (now «check_start») (now «check_bits») (now «bit_start») (now «bit_edges») (length (now llr)) ⌝ }
-    requires { ⌜ length (now messages) ≡ length (now «check_bits») ⌝ }
-    requires { ⌜ length (now hard) ≡ length (now llr) ⌝ }
-    requires { ⌜ length (now bits) ≤ length (now llr) ⌝ }
-    ensures { λ r. ⌜ Chose (decodeAt rule kind (now («check_start» .entry)) (now («check_bits» .entry)) (now (llr .entry)))
-        limit (length (now (bits .entry))) r (now (bits .exit)) ⌝ }
+    requires { ⌜ code < 4 ⌝ }
+    requires { ⌜ length (now llr) ≡ sizeN code ⌝ }
+    requires { ⌜ length (now messages) ≡ room code ⌝ }
+    requires { ⌜ length (now hard) ≡ sizeN code ⌝ }
+    requires { ⌜ length (now bits) ≤ sizeN code ⌝ }
+    ensures { λ r. ⌜ Chose (decodeAt code rule (now (llr .entry))) limit (length (now (bits .entry))) r (now (bits .exit)) ⌝ }
 {
     initial_word(llr, hard);
-    let first = tanner::counted_masked(check_start, check_bits, hard, 1);
+    let first = counted(code, hard);
     keep_word(hard, bits);
-    improve(
-        rule,
-        kind,
-        limit,
-        check_start,
-        check_bits,
-        bit_start,
-        bit_edges,
-        llr,
-        first,
-        messages,
-        hard,
-        bits,
-    )
+    improve(code, rule, limit, llr, first, messages, hard, bits)
 }
 
 // Every place +0.0.
@@ -302,41 +192,32 @@ pub fn clear(part: &mut [f32])
     }
 }
 
-// A frame's decode at a code's graph: the chosen word's first bits, as many as `bits` has places, and its count. Document 01's work area: its first
-// 3,070 places are +0.0 afterwards, and the rest is unchanged.
+// A frame's decode: the chosen word's first bits, as many as `bits` has places, and what is told of it. Document 01's work area: its first 3,070 places
+// are +0.0 afterwards, and the rest is unchanged.
 pub fn decode(
+    code: u32,
     rule: DecodeRule,
-    kind: SumKind,
     limit: u16,
-    check_start: &[u16],
-    check_bits: &[u16],
-    bit_start: &[u16],
-    bit_edges: &[u16],
     llr: &[f32],
     bits: &mut [u8],
     work: &mut [f32],
 ) -> Decoded
-    requires { ⌜ Graph (now «check_start») (now «check_bits») (now «bit_start») (now «bit_edges») (length (now llr)) ⌝ }
-    requires { ⌜ length (now llr) ≤ 576 ⌝ }
-    requires { ⌜ length (now bits) ≤ length (now llr) ⌝ }
+    requires { ⌜ code < 4 ⌝ }
+    requires { ⌜ length (now llr) ≡ sizeN code ⌝ }
+    requires { ⌜ length (now bits) ≤ sizeN code ⌝ }
     requires { ⌜ 3070 ≤ length (now work) ⌝ }
-    ensures { λ r. ⌜ Chose (decodeAt rule kind (now («check_start» .entry)) (now («check_bits» .entry)) (now (llr .entry)))
-        limit (length (now (bits .entry))) r (now (bits .exit)) ⌝ }
+    ensures { λ r. ⌜ Chose (decodeAt code rule (now (llr .entry))) limit (length (now (bits .entry))) r (now (bits .exit)) ⌝ }
     ensures { λ _. ⌜ now (work .exit) ≡ cleared (now (work .entry)) ⌝ }
 {
     let mut hard = [0u8; 576];
     let n = llr.len();
-    let edges = check_bits.len();
+    let room = passes::message_room(code);
     let decoded = choose(
+        code,
         rule,
-        kind,
         limit,
-        check_start,
-        check_bits,
-        bit_start,
-        bit_edges,
         llr,
-        &mut work[..edges],
+        &mut work[..room],
         &mut hard[..n],
         bits,
     );

@@ -13,7 +13,7 @@ use Rattle.staircase.specs.Codes.{codeOf}
 use Rattle.softmath.specs.declared.DecodeRule.{DecodeRule}
 use Rattle.softmath.specs.declared.DecodeRule.the-variants.{SumProduct, ScaledMinSum, Ft8}
 use Rattle.belief.specs.Chosen.{Chose, toldBy}
-use Rattle.belief.specs.Graph.{cleared}
+use Rattle.belief.specs.Area.{cleared}
 use Rattle.belief.specs.declared.Decoded.{Decoded}
 use Rattle.decoders.specs.Decodes.{threeQuarters, staircaseRule, ft8Rule, ruleOf, staircaseDecode}
 use Rattle.decoders.specs.Calls.{Single, Answered, softWithRefusals, frameRefusals}

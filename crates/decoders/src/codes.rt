@@ -4,7 +4,7 @@ ghost use Prim.Native.Nat.{_≤_};
 ghost use lib.ListN.{length};
 ghost use Rattle.construction.specs.Codes.{blockLength, n512r12, n576r23, n512r34};
 ghost use Rattle.belief.specs.Chosen.{Chose};
-ghost use Rattle.belief.specs.Graph.{cleared};
+ghost use Rattle.belief.specs.Area.{cleared};
 ghost use Rattle.decoders.specs.Decodes.{staircaseDecode, ft8Decode};
 use belief::Decoded;
 use ldpc::tables::BIT_EDGES;

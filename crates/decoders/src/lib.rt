@@ -7,7 +7,7 @@ ghost use lib.ListN.{length};
 ghost use Rattle.construction.specs.Codes.{blockLength};
 ghost use Rattle.staircase.specs.Codes.{codeOf};
 ghost use Rattle.belief.specs.Chosen.{Chose};
-ghost use Rattle.belief.specs.Graph.{cleared};
+ghost use Rattle.belief.specs.Area.{cleared};
 ghost use Rattle.decoders.specs.Decodes.{staircaseRule, ft8Rule, ruleOf, staircaseDecode};
 ghost use Rattle.decoders.specs.Calls.{decodingOf, Answered, softWith, soft, ft8Soft};
 use belief::Decoded;

@@ -7,7 +7,7 @@ use lib.IntN.{ℤ}
 use Rattle.refusal.specs.Outcome.{judged, kept}
 use Rattle.belief.specs.Rounds.{chosen, chosenBits}
 use Rattle.belief.specs.Chosen.{told}
-use Rattle.belief.specs.Graph.{cleared}
+use Rattle.belief.specs.Area.{cleared}
 use Rattle.decoders.specs.Calls.{Single}
 use Rattle.batch.specs.Codes.{decodeOf}
 use Rattle.batch.specs.Calls as batch

@@ -15,7 +15,7 @@ use Rattle.tanner.specs.Checks.{Word, count, firstUnsatisfied}
 use Rattle.tanner.specs.Flat.{joined}
 use Rattle.belief.specs.Rounds.{Decode, firstMessages, answers, sent, initialWord, unlessDone, wordsFrom, roundWords, roundsRun}
 use Rattle.belief.specs.Rounds.{chosenFrom, chosen, chosenCount, chosenFirst, chosenBits}
-use Rattle.belief.specs.Graph.{cleared}
+use Rattle.belief.specs.Area.{cleared}
 use Rattle.batch.specs.Codes.{sizeK}
 use Rattle.batch.specs.Calls.{Lent, Batch, refusals, frames, frameDecode, placeOf, written}
 use Rattle.batch_input.specs.Handed.{batchIn, inputRefusals}

@@ -14,7 +14,7 @@ use Rattle.softmath.specs.declared.DecodeRule.the-variants.{SumProduct, MinSum,
 use Rattle.tanner.specs.Checks.{Word, count, firstUnsatisfied, First}
 use Rattle.tanner.specs.Flat.{joined}
 use Rattle.belief.specs.Rounds.{Decode, firstMessages, byCheck, decided, sent, initialWord, unlessDone, chosenFrom}
-use Rattle.belief.specs.Graph.{cleared}
+use Rattle.belief.specs.Area.{cleared}
 use Rattle.batch.specs.Codes.{sizeK}
 use Rattle.batch.specs.Calls.{Lent, Batch, refusals, frames, frameDecode, placeOf}
 use Rattle.batch_input.specs.Handed.{batchIn, inputRefusals}

@@ -7,7 +7,7 @@ ghost use Prim.Native.Nat.{_<_, _≤_};
 ghost use lib.ListN.{length, take};
 ghost use Rattle.tanner.specs.Found.{firstOf};
 ghost use Rattle.belief.specs.Rounds.{chosen};
-ghost use Rattle.belief.specs.Graph.{cleared};
+ghost use Rattle.belief.specs.Area.{cleared};
 ghost use Rattle.batch.specs.Codes.{sizeN, sizeK, decodeOf};
 ghost use Rattle.reason.specs.Reasons.{firstNan, nanOr, checkOr, checksumOr, reasonUnder};
 ghost use Rattle.reason.specs.Calls.{asked, explainedOf, Answered};

@@ -1,51 +1,52 @@
 -- `belief::choose` meets its contract: the initial word, its count and its front, and then the rounds. Assumes nothing.
 use mathlib.Core.Path.{sym, _∙_}
 use native.Mathlib.Omega.{arith}
-use Rattle.belief.proofs.AtGraph.{graph-flat}
 use Rattle.belief.proofs.Whole.{initial-is, initial-kept}
+use borrow.Author.Needs.{needs}
 use borrow.Author.Needs.{needs}
 use Rattle.belief.proofs.choose.Statement.{statement}
 use Rattle.belief.proofs.choose.Tie as tie
-use Rattle.belief.proofs.choose.Reads as reads
-use Rattle.belief.proofs.choose.Lts as lts
-use Rattle.belief.proofs.improve.Reads as improve-reads
-use Rattle.belief.proofs.initial_word.Reads as initial-word-reads
-use Rattle.belief.proofs.keep_word.Reads as keep-word-reads
-use Rattle.tanner.proofs.count_masked.Reads as count-masked-reads
+
+-- the entry, from where the initial word is known
+abbrev entry : tie.After-initial-word → tie.Start
+entry c = c .before .before .before .before .before .before
 
 initial-word-requires : tie.Need-initial-word-requires
-initial-word-requires c κs = search needs
+initial-word-requires c κs = let p = c .before .before .before .before .before .pre in p .1 .1 .1 .0 ∙ sym (p .1 .0)
 
-counted-masked-requires : tie.Need-counted-masked-requires
-counted-masked-requires c κs =
+counted-requires : tie.Need-counted-requires
+counted-requires c κs =
     let first = c .before .before .before in
-    let start = first .before .before .before .before .before .before .before .before .before .before in
-    let a = start .args in
-    graph-flat (a .rule) (a .kind) _ _ _ _ (a .llr .now) (start .pre .0) _ (first .initial-word .kept .1 .0 ∙ start .pre .1 .1 .0)
+    let p = entry first .pre in
+    (p .0, first .initial-word .kept .1 .0 ∙ p .1 .1 .1 .0)
 
 keep-word-requires : tie.Need-keep-word-requires
 keep-word-requires c κs =
     let first = c .before .before .before .before .before .before in
-    let start = first .before .before .before .before .before .before .before .before .before .before in
-    omega (arith, first .initial-word .kept .1 .0, start .pre .1 .1 .0, start .pre .1 .1 .1)
+    let p = entry first .pre in
+    omega (arith, first .initial-word .kept .1 .0, p .1 .1 .1 .0, p .1 .1 .1 .1)
 
 improve-requires : tie.Need-improve-requires
 improve-requires c κs =
     let kept = c .before .before .before .before .before in
     let counted = kept .before .before .before in
     let first = counted .before .before .before .before in
-    let start = first .before .before .before .before .before .before .before .before .before .before in
+    let start = entry first in
     let a = start .args in
+    let p = start .pre in
     let word = first .initial-word .ensures in
     let size = kept .keep-word .kept .1 .0 in (
-      start .pre .0,
+      p .0,
       (
-        start .pre .1 .0,
+        p .1 .0,
         (
-          initial-is (a .rule) (a .kind) (a .check-start .now) (a .check-bits .now) (a .llr .now) _ word,
+          p .1 .1 .0,
           (
-            omega (arith, size, start .pre .1 .1 .1),
-            initial-kept (a .rule) (a .kind) (a .check-start .now) (a .check-bits .now) (a .llr .now) _ _ _ _ _ word (counted .counted-masked .ensures) (kept .keep-word .ensures) (sym size),
+            initial-is (a .code) (a .rule) (a .llr .now) _ word,
+            (
+              omega (arith, size, p .1 .1 .1 .1),
+              initial-kept (a .code) (a .rule) (a .llr .now) _ _ _ _ _ word (counted .counted .ensures) (kept .keep-word .ensures) (sym size),
+            ),
           ),
         ),
       ),
@@ -71,7 +72,7 @@ choose-spec =
     tie.close
     (tie.spec
     initial-word-requires
-    counted-masked-requires
+    counted-requires
     keep-word-requires
     improve-requires
     same-length

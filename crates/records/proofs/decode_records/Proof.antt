@@ -43,7 +43,7 @@ use Rattle.batch.specs.Codes.{sizeN, sizeK}
 use Rattle.batch.specs.Pairs as named
 use Rattle.batch.specs.Calls.{Lent, lent, Batch, batch, frameDecode, written}
 use Rattle.batch.specs.Steps.{Fitting, PlaceFits, placed}
-use Rattle.belief.specs.Graph.{cleared}
+use Rattle.belief.specs.Area.{cleared}
 use Rattle.batch.proofs.Frames.{offsetAt, Going, going-none, going-fits, going-more, going-done}
 use Rattle.batch.proofs.clear_area as clear
 use Rattle.batch.proofs.clear_area.Symbol as clear-def
