@@ -2,7 +2,6 @@
 use mathlib.Core.List.{List}
 use Prim.Native.Nat.{ℕ, zero, suc}
 use lib.Ieee.{Float}
-use Rattle.construction.specs.Codes.{Code, blockLength}
 use Rattle.staircase.specs.Codes.{codeOf, columns}
 use Rattle.staircase.specs.Staircase.{encoded}
 use Rattle.ldpc.specs.Encoding.{encodeBits}
@@ -11,16 +10,8 @@ use Rattle.softmath.specs.declared.DecodeRule.{DecodeRule}
 use Rattle.belief.specs.Rounds.{Decode}
 use Rattle.decoders.specs.Decodes.{ruleOf, staircaseDecode, ft8Decode}
 
--- "Code 0 to 2 as above, 3 is (174,91)." (A number above 3 is refused.)
-abbrev pub byCode : {A : Type 0} → ℕ → (Code → A) → A → A
-byCode zero f a = f (codeOf 0)
-byCode (suc zero) f a = f (codeOf 1)
-byCode (suc (suc zero)) f a = f (codeOf 2)
-byCode (suc (suc (suc n))) f a = a
-
 -- N, a frame's values, and K, its message bits: "91 for code 3"
-unfoldable pub sizeN : ℕ → ℕ
-sizeN code = byCode code (λ c. blockLength c) 174
+pub use Rattle.passes.specs.Codes.{byCode, sizeN}
 
 unfoldable pub sizeK : ℕ → ℕ
 sizeK code = byCode code (λ c. c .k) 91

@@ -193,10 +193,7 @@ pub fn decode_frame(
     ensures { λ _. ⌜ now (work .exit) ≡ cleared (now (work .entry)) ⌝ }
 {
     let step = decoders::rule_of(code, rule, scale);
-    if code > 2 {
-        return decoders::codes::decode_ft8(step, limit, llr, bits, work);
-    }
-    decoders::decode_staircase(code, step, limit, llr, bits, work)
+    belief::decode(code, step, limit, llr, bits, work)
 }
 
 // A first unsatisfied check as one number.

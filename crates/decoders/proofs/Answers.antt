@@ -1,5 +1,5 @@
 -- The numbers of codes and rules, case by case, and what a call that is refused or accepted answers. Assumes nothing.
-use mathlib.Core.Path.{_≡_, refl, sym, ap, subst, _∙_}
+use mathlib.Core.Path.{_≡_, refl, sym, ap, _∙_}
 use mathlib.Core.List.{List}
 use Prim.Native.Nat.{ℕ, zero, suc, _<_, _≤_}
 use native.Mathlib.Omega.{arith}
@@ -14,8 +14,10 @@ use Rattle.softmath.specs.declared.DecodeRule.{DecodeRule}
 use Rattle.softmath.specs.declared.DecodeRule.the-variants.{SumProduct, ScaledMinSum, Ft8}
 use Rattle.belief.specs.Chosen.{Chose, toldBy}
 use Rattle.belief.specs.Area.{cleared}
+use Rattle.belief.specs.Run.{decodeAt}
+use Rattle.passes.specs.Codes.{sizeN, checksBy, kindBy}
 use Rattle.belief.specs.declared.Decoded.{Decoded}
-use Rattle.decoders.specs.Decodes.{threeQuarters, staircaseRule, ft8Rule, ruleOf, staircaseDecode}
+use Rattle.decoders.specs.Decodes.{threeQuarters, staircaseRule, ft8Rule, ruleOf, staircaseDecode, ft8Decode}
 use Rattle.decoders.specs.Calls.{Single, Answered, softWithRefusals, frameRefusals}
 
 -- ---- numbers
@@ -56,13 +58,25 @@ pub own-step : (n : ℕ) → n ≤ 0 → Ft8 ≡ ft8Rule n
 own-step zero h = refl
 own-step (suc n) h = absurd (omega arith)
 
--- the code with a number that equals another
-pub at-code : (code k : ℕ) → code ≡ k → (rule : DecodeRule) (llr : List Float) (limit n : ℕ) (r : Decoded) (bits : List ℕ)
-    → Chose (staircaseDecode (codeOf k) rule llr) limit n r bits → Chose (staircaseDecode (codeOf code) rule llr) limit n r bits
-at-code code k e rule llr limit n r bits h = subst (λ (x : ℕ). Chose (staircaseDecode (codeOf x) rule llr) limit n r bits) (sym e) h
+-- the decode at a staircase code's number, and its sizes
+pub staircase-at : (code : ℕ) → code < 3 → (rule : DecodeRule) (llr : List Float) → decodeAt code rule llr ≡ staircaseDecode (codeOf code) rule llr
+unfolding checksBy kindBy
+staircase-at zero h rule llr = refl
+staircase-at (suc zero) h rule llr = refl
+staircase-at (suc (suc zero)) h rule llr = refl
+staircase-at (suc (suc (suc n))) h rule llr = absurd (omega arith)
 
-pub length-at : (code k n : ℕ) → code ≡ k → n ≡ blockLength (codeOf code) → n ≡ blockLength (codeOf k)
-length-at code k n e h = subst (λ (x : ℕ). n ≡ blockLength (codeOf x)) e h
+pub size-of : (code : ℕ) → code < 3 → blockLength (codeOf code) ≡ sizeN code
+unfolding sizeN
+size-of zero h = refl
+size-of (suc zero) h = refl
+size-of (suc (suc zero)) h = refl
+size-of (suc (suc (suc n))) h = absurd (omega arith)
+
+-- and at (174,91)'s
+pub ft8-at : (rule : DecodeRule) (llr : List Float) → decodeAt 3 rule llr ≡ ft8Decode rule llr
+unfolding checksBy kindBy
+ft8-at rule llr = refl
 
 -- ---- refused and accepted calls
 

@@ -1,14 +1,8 @@
-// The soft decoders of the staircase codes and of (174,91): the round loop of `belief` at each code's tables.
-pub mod codes;
-
+// The soft decoders of the staircase codes and of (174,91): the round loop of `belief` at each code's number.
 ghost use mathlib.Core.Path.{_≡_};
-ghost use Prim.Native.Nat.{_≤_, _<_};
-ghost use lib.ListN.{length};
 ghost use Rattle.construction.specs.Codes.{blockLength};
 ghost use Rattle.staircase.specs.Codes.{codeOf};
-ghost use Rattle.belief.specs.Chosen.{Chose};
-ghost use Rattle.belief.specs.Area.{cleared};
-ghost use Rattle.decoders.specs.Decodes.{staircaseRule, ft8Rule, ruleOf, staircaseDecode};
+ghost use Rattle.decoders.specs.Decodes.{staircaseRule, ft8Rule, ruleOf};
 ghost use Rattle.decoders.specs.Calls.{decodingOf, Answered, softWith, soft, ft8Soft};
 use belief::Decoded;
 use construction::codes::N512R12;
@@ -87,31 +81,6 @@ pub fn bits_of(code: u32) -> usize
     N512R34::K
 }
 
-// A frame of the staircase code with that number, whose first bits go to `bits`.
-pub fn decode_staircase(
-    code: u32,
-    rule: DecodeRule,
-    limit: u16,
-    llr: &[f32],
-    bits: &mut [u8],
-    work: &mut [f32],
-) -> Decoded
-    requires { ⌜ code < 3 ⌝ }
-    requires { ⌜ length (now llr) ≡ blockLength (codeOf code) ⌝ }
-    requires { ⌜ length (now bits) ≤ length (now llr) ⌝ }
-    requires { ⌜ 3070 ≤ length (now work) ⌝ }
-    ensures { λ r. ⌜ Chose (staircaseDecode (codeOf code) rule (now (llr .entry))) limit (length (now (bits .entry))) r (now (bits .exit)) ⌝ }
-    ensures { λ _. ⌜ now (work .exit) ≡ cleared (now (work .entry)) ⌝ }
-{
-    if code == 0 {
-        return codes::decode_n512r12(rule, limit, llr, bits, work);
-    }
-    if code == 1 {
-        return codes::decode_n576r23(rule, limit, llr, bits, work);
-    }
-    codes::decode_n512r34(rule, limit, llr, bits, work)
-}
-
 // A staircase decode by the rule with that number, which is `decode_soft_with`.
 pub fn decode_soft_with(
     code: u32,
@@ -143,7 +112,7 @@ pub fn decode_soft_with(
     if work.len() < belief::WORK {
         return Decoding::Refused(Refusal::WorkTooShort);
     }
-    Decoding::Decoded(decode_staircase(code, staircase_rule(rule, scale), limit, llr, bits, work))
+    Decoding::Decoded(belief::decode(code, staircase_rule(rule, scale), limit, llr, bits, work))
 }
 
 // The same by sum-product, which is `decode_soft`.
@@ -174,5 +143,5 @@ pub fn ldpc_decode_soft(llr: &[f32], limit: u16, plain: &mut [u8], work: &mut [f
     if work.len() < belief::WORK {
         return Decoding::Refused(Refusal::WorkTooShort);
     }
-    Decoding::Decoded(codes::decode_ft8(DecodeRule::Ft8, limit, llr, plain, work))
+    Decoding::Decoded(belief::decode(3, DecodeRule::Ft8, limit, llr, plain, work))
 }

@@ -9,7 +9,7 @@ use Rattle.staircase.specs.Codes.{codeOf}
 use Rattle.refusal.specs.Outcome.{refused}
 use Rattle.refusal.proofs.Judged.{verdict}
 use Rattle.decoders.specs.Calls.{Single, frameRefusals, softWith}
-use Rattle.decoders.proofs.Answers.{turned-down, decoded, soft-right}
+use Rattle.decoders.proofs.Answers.{staircase-at, size-of, turned-down, decoded, soft-right}
 use borrow.Author.Needs.{needs}
 use Rattle.decoders.proofs.decode_soft_with.Statement.{statement}
 use Rattle.decoders.proofs.decode_soft_with.Tie as tie
@@ -89,12 +89,13 @@ returns-6 c =
 staircase-rule-requires : tie.Need-staircase-rule-requires
 staircase-rule-requires c κs = search needs
 
-decode-staircase-requires : tie.Need-decode-staircase-requires
-decode-staircase-requires c κs =
+decode-requires : tie.Need-decode-requires
+decode-requires c κs =
     let v = c .before .before .before .before in
-    let n = values-right (values v) in
+    let code = code-right (numbers (values v)) .0 in
+    let n = values-right (values v) ∙ size-of _ code in
     let k = bits-right v in
-    (code-right (numbers (values v)) .0, (n, (omega arith, c .before .before .before .if6 .left)))
+    (omega (arith, code), (n, (omega (arith, k, size-of _ code), c .before .before .before .if6 .left)))
 
 same-length : tie.Need-same-length
 same-length c = search needs
@@ -111,8 +112,8 @@ returns-7 c =
     let a = start p .args in
     let k = code-right p in
     let right = soft-right (a .code) (a .rule) (a .llr .now) (a .bits .now) (a .work .now) (k .0) (k .1) (values-right (values v)) (bits-right v) (named .before .if6 .left) in
-    let chose = rw (named .staircase-rule .ensures, bits-right v) at (done .decode-staircase .ensures .0) in
-    decoded (call (start p)) right _ _ _ chose (done .decode-staircase .ensures .1)
+    let chose = rw (staircase-at _ (k .0) _ _, named .staircase-rule .ensures, bits-right v) at (done .decode .ensures .0) in
+    decoded (call (start p)) right _ _ _ chose (done .decode .ensures .1)
 
 pub decode-soft-with-spec : {M : Type 1} → statement M
 decode-soft-with-spec =
@@ -127,7 +128,7 @@ decode-soft-with-spec =
     returns-5
     returns-6
     staircase-rule-requires
-    decode-staircase-requires
+    decode-requires
     same-length
     same-length-2
     returns-7)

@@ -1,7 +1,8 @@
 -- `decoders::ldpc_decode_soft` meets its contract: each refusal by its test, and the decode. Assumes nothing.
 use borrow.Author.Tests.{lt-ltb, eq-eqb, ne-eqb}
+use Rattle.passes.specs.Codes.{sizeN}
 use Rattle.decoders.specs.Calls.{Single, ft8Soft}
-use Rattle.decoders.proofs.Answers.{turned-down, decoded, lengths-right}
+use Rattle.decoders.proofs.Answers.{ft8-at, turned-down, decoded, lengths-right}
 use borrow.Author.Needs.{needs}
 use Rattle.decoders.proofs.ldpc_decode_soft.Statement.{statement}
 use Rattle.decoders.proofs.ldpc_decode_soft.Tie as tie
@@ -24,8 +25,9 @@ returns-3 c =
     let first = c .before .before in
     turned-down (call (entry first)) 9 (simp (eq-eqb _ _ (first .if1 .left), eq-eqb _ _ (c .before .if2 .left), lt-ltb _ _ (c .if3 .taken)))
 
-decode-ft8-requires : tie.Need-decode-ft8-requires
-decode-ft8-requires c κs = search needs
+decode-requires : tie.Need-decode-requires
+unfolding sizeN
+decode-requires c κs = search needs
 
 same-length : tie.Need-same-length
 same-length c = search needs
@@ -42,9 +44,9 @@ returns-4 c =
     let k = third .before .if2 .left in
     let a = entry first .args in
     let right = lengths-right 174 174 (a .llr .now) (a .plain .now) (a .work .now) n k (third .if3 .left) in
-    decoded (call (entry first)) right _ _ _ (rw k at (done .decode-ft8 .ensures .0)) (done .decode-ft8 .ensures .1)
+    decoded (call (entry first)) right _ _ _ (rw (ft8-at _ _, k) at (done .decode .ensures .0)) (done .decode .ensures .1)
 
 pub ldpc-decode-soft-spec : {M : Type 1} → statement M
 ldpc-decode-soft-spec =
     tie.close
-    (tie.spec returns returns-2 returns-3 decode-ft8-requires same-length same-length-2 returns-4)
+    (tie.spec returns returns-2 returns-3 decode-requires same-length same-length-2 returns-4)
