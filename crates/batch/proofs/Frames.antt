@@ -12,10 +12,11 @@ use Rattle.softmath.specs.declared.DecodeRule.{DecodeRule}
 use Rattle.tanner.specs.Flat.{joined}
 use Rattle.belief.specs.Chosen.{Chose}
 use Rattle.belief.specs.Area.{cleared}
+use Rattle.belief.specs.Run.{decodeAt}
 use Rattle.belief.proofs.Fill.{fill-more, fill-done}
 use Rattle.softmath.specs.Single.{zero32}
-use Rattle.staircase.specs.Codes.{codeOf}
-use Rattle.decoders.specs.Decodes.{ruleOf, staircaseDecode, ft8Decode}
+use Rattle.passes.specs.Codes.{checksBy, kindBy}
+use Rattle.decoders.specs.Decodes.{ruleOf}
 use Rattle.belief.specs.declared.Decoded.{Decoded}
 use Rattle.batch.specs.Codes.{sizeN, sizeK, decodeBy, decodeOf}
 use Rattle.batch.specs.Pairs.{Pair, pair, pairsOf, frameOf, framesOf, AllWithin}
@@ -25,29 +26,16 @@ use Rattle.batch.proofs.Pairs.{pairs-length, pair-at, within-at}
 
 -- ---- one frame
 
-decode-ft8-is : (n rule : ℕ) (scale : Float) (llr : List Float) → 2 < n → ft8Decode (ruleOf n rule scale) llr ≡ decodeOf n rule scale llr
-unfolding decodeBy
-decode-ft8-is zero rule scale llr h = absurd (omega arith)
-decode-ft8-is (suc zero) rule scale llr h = absurd (omega arith)
-decode-ft8-is (suc (suc zero)) rule scale llr h = absurd (omega arith)
-decode-ft8-is (suc (suc (suc n))) rule scale llr h = refl
+decode-is : (code : ℕ) (r : DecodeRule) (llr : List Float) → decodeAt code r llr ≡ decodeBy code r llr
+unfolding decodeBy checksBy kindBy
+decode-is zero r llr = refl
+decode-is (suc zero) r llr = refl
+decode-is (suc (suc zero)) r llr = refl
+decode-is (suc (suc (suc n))) r llr = refl
 
-decode-staircase-is : (n rule : ℕ) (scale : Float) (llr : List Float) → n ≤ 2 → staircaseDecode (codeOf n) (ruleOf n rule scale) llr ≡ decodeOf n rule scale llr
-unfolding decodeBy
-decode-staircase-is zero rule scale llr h = refl
-decode-staircase-is (suc zero) rule scale llr h = refl
-decode-staircase-is (suc (suc zero)) rule scale llr h = refl
-decode-staircase-is (suc (suc (suc n))) rule scale llr h = absurd (omega arith)
-
-module _ (code rule : ℕ) (scale : Float) (limit : ℕ) (llr : List Float) (k : ℕ) (found : Decoded) (bits : List ℕ) where
-  abbrev Framed : Type 0
-  Framed = Chose (decodeOf code rule scale llr) limit k found bits
-
-  pub frame-ft8 : (r : DecodeRule) → 2 < code → r ≡ ruleOf code rule scale → Chose (ft8Decode r llr) limit k found bits → Framed
-  frame-ft8 r h e c = rw (e, decode-ft8-is code rule scale llr h) at c
-
-  pub frame-staircase : (r : DecodeRule) → code ≤ 2 → r ≡ ruleOf code rule scale → Chose (staircaseDecode (codeOf code) r llr) limit k found bits → Framed
-  frame-staircase r h e c = rw (e, decode-staircase-is code rule scale llr h) at c
+pub frame-chosen : (code rule : ℕ) (scale : Float) (limit : ℕ) (llr : List Float) (k : ℕ) (found : Decoded) (bits : List ℕ) (r : DecodeRule)
+    → r ≡ ruleOf code rule scale → Chose (decodeAt code r llr) limit k found bits → Chose (decodeOf code rule scale llr) limit k found bits
+frame-chosen code rule scale limit llr k found bits r e c = rw (decode-is code r llr, e) at c
 
 -- ---- the places of frame j
 

@@ -9,9 +9,9 @@ use Rattle.tanner.specs.Checks.{Word}
 use Rattle.softmath.specs.declared.DecodeRule.{DecodeRule}
 use Rattle.belief.specs.Rounds.{Decode}
 use Rattle.decoders.specs.Decodes.{ruleOf, staircaseDecode, ft8Decode}
-
 -- N, a frame's values, and K, its message bits: "91 for code 3"
-pub use Rattle.passes.specs.Codes.{byCode, sizeN}
+pub use Rattle.passes.specs.Codes.{byCode}
+unfoldable pub use Rattle.passes.specs.Codes.{sizeN}
 
 unfoldable pub sizeK : ℕ → ℕ
 sizeK code = byCode code (λ c. c .k) 91

@@ -64,7 +64,7 @@ distinct-placed place n apart low none = none
 distinct-placed place n apart low (more {e = e} {es = es} a d) =
     more {es = map place es}
     (λ k l q. let o : k < length es = omega (arith, l, length-map es place) in
-      a k o (apart (getD es k 0) e (low (suc k) (omega (arith, o))) (low 0 (omega arith)) (sym (place-at place es k o) ∙ q)))
+    a k o (apart (getD es k 0) e (low (suc k) (omega (arith, o))) (low 0 (omega arith)) (sym (place-at place es k o) ∙ q)))
     (distinct-placed place n apart (λ k l. low (suc k) (omega arith)) d)
 
 -- ---- the definition, position by position and edge by edge

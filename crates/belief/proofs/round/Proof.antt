@@ -26,7 +26,7 @@ returns c =
     let start = steps .before .before .before .before .before in
     let a = start .args in (
       round-held (a .code) (a .rule) (a .llr .now) (start .pre .1 .0) _ _ _ _ _ _ (start .pre .1 .1 .1) (steps .check-pass .ensures) (bits .bit-pass .ensures)
-      (c .count .ensures),
+          (c .count .ensures),
       c .count .ensures,
     )
 

@@ -87,7 +87,7 @@ kept-at j ms h =
     let done = r .round .ensures .0 (s .ms) (s .holds) in
     ⊎-elim
     (λ w. kept-better _ _ _ _ _ _ _ _ _ (s .held) (done .counted) (w .0 .taken) (w .8 ∙ w .3 .ensures ∙ ap (λ (n : ℕ). take n (word r)) k)
-      (ap syndromeOf (w .9) ∙ round-found _ _ _ _ _ _ _ done (w .7 .result) (w .7 .ensures)))
+    (ap syndromeOf (w .9) ∙ round-found _ _ _ _ _ _ _ done (w .7 .result) (w .7 .ensures)))
     (λ w. kept-same _ _ _ _ _ _ _ _ _ (s .held) (done .counted) (w .0 .left) (w .1) (w .2))
     (j .if1 .came)
 
@@ -150,10 +150,10 @@ same-length-3 c = search needs
 returns : tie.Need-returns Inv-loop μ-loop
 returns c =
     λ ms h.
-        let l = c .before in
-        let e : entry l .args .limit - l .loop .done ≡ 0 = omega arith in
-        let out = rounds-out _ _ _ _ _ _ _ _ _ _ (rw e at (l .loop .inv .4 ms h)) in
-        record { kept = out .0; rounds = out .1 }
+    let l = c .before in
+    let e : entry l .args .limit - l .loop .done ≡ 0 = omega arith in
+    let out = rounds-out _ _ _ _ _ _ _ _ _ _ (rw e at (l .loop .inv .4 ms h)) in
+    record { kept = out .0; rounds = out .1 }
 
 same-length-4 : tie.Need-same-length-4 Inv-loop μ-loop
 same-length-4 c = search needs
@@ -167,10 +167,10 @@ same-length-6 c = kept-size (c .before)
 returns-2 : tie.Need-returns-2 Inv-loop μ-loop
 returns-2 c =
     λ ms h.
-        let j = c .before in
-        let s = running j ms h in
-        let out = round-out _ _ _ _ _ _ _ _ _ _ _ _ _ _ _ _ s (met j .round .ensures .0 (s .ms) (s .holds)) (kept-at j ms h) (c .if2 .taken) in
-        record { kept = out .0; rounds = out .1 }
+    let j = c .before in
+    let s = running j ms h in
+    let out = round-out _ _ _ _ _ _ _ _ _ _ _ _ _ _ _ _ s (met j .round .ensures .0 (s .ms) (s .holds)) (kept-at j ms h) (c .if2 .taken) in
+    record { kept = out .0; rounds = out .1 }
 
 pub rounds-spec : {M : Type 1} → statement M
 rounds-spec =
