@@ -74,11 +74,6 @@ class Tables:
         self.checkBits = [p for check in checks for p in check]
         self.checkStarts = ends(checks)
         self.widths = {len(row) for row in taps}
-        edges = [[] for _ in range(n)]
-        for e, p in enumerate(self.checkBits):
-            edges[p].append(e)
-        self.edges = [e for of in edges for e in of]
-        self.edgeStarts = ends(edges)
         self.rows = [row for column in self.columns for row in column]
         self.taps = [p for row in taps for p in row]
         # entry j of row i lies at j * m + i
@@ -104,8 +99,6 @@ NAMES = {
     "checkBits": "CHECK_BITS",
     "taps": "TAPS",
     "places": "EDGES",
-    "edgeStarts": "BIT_STARTS",
-    "edges": "BIT_EDGES",
     "index": "INDEX",
 }
 

@@ -4,9 +4,9 @@
     ORION_SRC=folder python3 tools/ldpc_tables.py crates/ldpc
 
 ORION_SRC names a folder that holds the Rust's ldpc.rs. Written are src/tables.rt (the constants of the code), specs/Tables.antt
-(the Rust's four tables as lists), proofs/Arrays.antt (the four arrays of the Tanner graph as lists) and proofs/CheckSets.antt (the
+(the Rust's four tables as lists), proofs/Arrays.antt (the arrays of the Tanner graph as lists) and proofs/CheckSets.antt (the
 checks to add up for each parity bit). The graph's arrays and the sets are worked out here from NM and NUM_ROWS; that they are right
-is proved in proofs/Graph.antt and proofs/Codewords.antt, and nothing rests on this script. Run `rt fmt` afterwards.
+is proved in proofs/Graph.antt, BySlots.antt and Codewords.antt, and nothing rests on this script. Run `rt fmt` afterwards.
 """
 import os
 import re
@@ -61,14 +61,10 @@ def main():
     for c in range(83):
         check_bits += [p - 1 for p in nm[7 * c:7 * c + num_rows[c]]]
         check_start.append(len(check_bits))
-    bit_start, bit_edges = [0], []
-    for b in range(174):
-        bit_edges += [e for e in range(len(check_bits)) if check_bits[e] == b]
-        bit_start.append(len(bit_edges))
 
     # by slots: entry j of check c lies at place 83 * j + c
     slot = [83 * j + c for c in range(83) for j in range(num_rows[c])]
-    edges = [slot[e] for e in bit_edges]
+    edges = [slot[e] for b in range(174) for e in range(len(check_bits)) if check_bits[e] == b]
     pads = [83 * 6 + c for c in range(83) if num_rows[c] == 6]
 
     rust = [
@@ -80,8 +76,6 @@ def main():
     graph = [
         ("Where each check's positions start in CHECK_BITS, and the end of the last.", "CHECK_STARTS", check_start, "checkStart"),
         ("The positions of each check, counted from 0: one for each of the 522 edges.", "CHECK_BITS", check_bits, "checkBits"),
-        ("Where each position's edges start in BIT_EDGES, and the end of the last.", "BIT_STARTS", bit_start, "bitStart"),
-        ("The edges of each position, ascending: indices in CHECK_BITS.", "BIT_EDGES", bit_edges, "bitEdge"),
         ("By slots: the three places of each position's edges, checks ascending. Entry j of check c lies at place 83 j + c.", "EDGES", edges, "slotEdge"),
         ("By slots: the place after the last entry of each check of six positions.", "PADS", pads, "slotPads"),
     ]
@@ -100,7 +94,7 @@ def main():
             f.write("\n" + listed(note, names[name], t, a_line, shown))
 
     with open(os.path.join(crate, "proofs/Arrays.antt"), "w", encoding="utf-8") as f:
-        f.write(head("-- The Tanner graph's four arrays, as the source's constants have them; `Graph.antt` shows that they are right, by computation.\n"
+        f.write(head("-- The Tanner graph's arrays, as the source's constants have them; `Graph.antt` and `BySlots.antt` show that they are right, by computation.\n"
                      "-- Written by tools/ldpc_tables.py.\n"))
         for note, name, t, spelled in graph:
             f.write("\n" + listed(note, spelled, t, 20, "%d"))

@@ -4,8 +4,8 @@
 //     ORION_SRC=folder rustc --edition 2021 -O tools/staircase_replay.rs -o target/staircase_replay && target/staircase_replay crates/staircase_replay
 //
 // All numbers are hexadecimal: first each code's msg_col_rows (with 0000, the relaxed picks, which the Rust does not count), then each code's
-// check_bits with their starts, then for each code the edges of each bit with their starts, an edge being the place of the bit in the joined
-// check_bits. Then for each word the codewords of its first K bytes and its syndrome weights, each with the first check
+// check_bits with their starts, then for each code the message positions of each check and the places of each message bit's edges by slots: entry j of
+// check c lies at place j * M + c. Then for each word the codewords of its first K bytes and its syndrome weights, each with the first check
 // that it counts, code by code.
 #![allow(dead_code)]
 include!(concat!(env!("ORION_SRC"), "/ldpc_codes.rs"));
@@ -37,13 +37,12 @@ fn tables(codes: &[Ldpc]) -> String {
         text += &table(c.check_bits.iter().flatten().copied());
     }
     for c in codes {
-        let check_starts = starts(&c.check_bits);
-        text += &table(starts(&c.bit_checks).into_iter());
-        text += &table((0..c.n).flat_map(|b| {
+        text += &table(c.check_bits.iter().flat_map(|check| check.iter().copied().filter(|&p| p < c.k)));
+        text += &table((0..c.k).flat_map(|b| {
             let at: Vec<usize> = c.bit_checks[b]
                 .iter()
                 .zip(&c.bit_check_edge_idx[b])
-                .map(|(&check, &i)| check_starts[check] + i)
+                .map(|(&check, &i)| i * c.m + check)
                 .collect();
             at
         }));

@@ -1,8 +1,8 @@
 -- The four code numbers of a batch: sizes, what is decoded, and the encoding.
 use mathlib.Core.List.{List}
-use Prim.Native.Nat.{ℕ, zero, suc}
+use Prim.Native.Nat.{ℕ}
 use lib.Ieee.{Float}
-use Rattle.staircase.specs.Codes.{codeOf, columns}
+use Rattle.staircase.specs.Codes.{columns}
 use Rattle.staircase.specs.Staircase.{encoded}
 use Rattle.ldpc.specs.Encoding.{encodeBits}
 use Rattle.tanner.specs.Checks.{Word}

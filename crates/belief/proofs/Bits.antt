@@ -11,7 +11,7 @@ use native.Mathlib.Decide.{decLt}
 use native.Mathlib.Omega.{arith}
 use lib.Dec.{eqb}
 use lib.Ieee.{Float, nan}
-use lib.ListN.{length, getD, take, set, length-set, length-map}
+use lib.ListN.{length, getD, take, length-set, length-map}
 use lib.Seq.{getD-set-same, getD-set-other, ext-getD, append-snoc}
 use Rattle.softmath.specs.Functions.{decide}
 use Rattle.softmath.specs.VariableNode.{decisionSum, newMessages, answersAt, EdgesWithin, Distinct, none, more, putAt}

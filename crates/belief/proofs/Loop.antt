@@ -15,8 +15,8 @@ use Rattle.tanner.specs.Flat.{Below}
 use Rattle.tanner.proofs.First.{both}
 use Rattle.tanner.specs.declared.Counted.{Counted}
 use Rattle.tanner.specs.declared.FirstCheck.{FirstCheck}
-use Rattle.belief.specs.Rounds.{Decode, answers, decided, sent, firstMessages, initialWord, wordsFrom, roundWords, roundsRun, unlessDone, better, chosenFrom, chosen, chosenCount, chosenFirst, chosenBits}
-use Rattle.belief.specs.Chosen.{Told, toldBy, told, Chose}
+use Rattle.belief.specs.Rounds.{Decode, answers, sent, firstMessages, initialWord, wordsFrom, roundWords, roundsRun, unlessDone, better, chosenFrom, chosen, chosenCount, chosenFirst, chosenBits}
+use Rattle.belief.specs.Chosen.{Told, Chose}
 use Rattle.belief.specs.Run.{Holds, RoundDone, Kept, Ran, countedOf}
 use Rattle.belief.specs.declared.Decoded.{Decoded}
 use Rattle.belief.proofs.BitWords.{word-bits, masked-word}

@@ -1,17 +1,16 @@
 -- A round at the code with a given number, as its passes leave it, is a round of the definition. Assumes nothing.
 use mathlib.Core.Path.{_≡_, refl, sym, ap, subst, _∙_}
 use mathlib.Core.List.{List}
-use Prim.Native.Nat.{ℕ, zero, suc, _*_, _<_, _≤_}
+use Prim.Native.Nat.{ℕ, zero, suc, _<_, _≤_}
 use native.Mathlib.Omega.{arith}
-use lib.Ieee.{Float, nan}
-use lib.ListN.{length, getD}
+use lib.Ieee.{Float}
+use lib.ListN.{length}
 use Rattle.softmath.specs.CheckNode.{checkStep}
 use Rattle.softmath.specs.declared.DecodeRule.{DecodeRule}
-use Rattle.tanner.specs.Checks.{Checks, Word, countMasked}
+use Rattle.tanner.specs.Checks.{Word, countMasked}
 use Rattle.tanner.specs.Flat.{Below, joined}
 use Rattle.slots.specs.Layout.{Slotted, slotPlace, padPlaces, scattered}
 use Rattle.slots.proofs.Edges.{slot-injective, slot-inside}
-use Rattle.slots.proofs.Scattered.{scattered-length}
 use Rattle.construction.specs.Codes.{n512r12, n576r23, n512r34}
 use Rattle.staircase.proofs.Positions.{checks-low}
 use Rattle.ldpc.proofs.Graph as ft8
@@ -21,10 +20,10 @@ use Rattle.passes.specs.Codes.{sizeN, sizeM, checksBy, kindBy, degree, room}
 use Rattle.passes.specs.Passes.{slotFirst, slotTurn}
 use Rattle.passes.proofs.Tables.{slotted-by}
 use Rattle.belief.specs.Rounds.{Decode, answers, decided, sent, firstMessages}
-use Rattle.belief.specs.Run.{Holds, HeldBy, RoundBy, decodeAt}
+use Rattle.belief.specs.Run.{HeldBy, RoundBy, decodeAt}
 use Rattle.belief.proofs.BitWords.{counted-word, word-bits}
 use Rattle.belief.proofs.Held.{held-at, held-of}
-use Rattle.belief.proofs.Answers.{Padded, holds-answers}
+use Rattle.belief.proofs.Answers.{holds-answers}
 use Rattle.belief.proofs.First.{first-holds, pads-set, pads-hold}
 use Rattle.belief.proofs.Bits.{turns-word, turns-work, turns-size, sent-size}
 

@@ -1,17 +1,15 @@
 -- A turn of each loop over the slots: slot after slot, the columns from a on are what is left to do. Assumes nothing.
 use mathlib.Core.Path.{_≡_, refl, ap, subst, _∙_}
 use mathlib.Core.List.{List, _∷_, _++_, map}
-use Prim.Native.Nat.{ℕ, zero, suc, _+_, _-_, _*_, _^_, _≤_, _<_}
-use native.Mathlib.Nat.{suc-mul, zero-add, add-sub-cancel-left, mul-le-mul}
+use Prim.Native.Nat.{ℕ, zero, suc, _+_, _-_, _*_, _≤_, _<_}
+use native.Mathlib.Nat.{suc-mul, zero-add, add-sub-cancel-left}
 use native.Mathlib.Omega.{arith}
 use lib.ListN.{length, take, drop, getD, length-append, length-drop, List·getD-append}
 use lib.Seq.{length-take-le, getD-take, getD-drop, getD-append-add}
-use mathlib.Core.Bool.{false}
-use lib.Ieee.{Float, nan, inf}
-use Rattle.softmath.specs.Single.{one32}
+use lib.Ieee.{Float, nan}
 use Rattle.softmath.specs.CheckNode.{minSum}
 use Rattle.slots.specs.Columns.{columnFrom}
-use Rattle.check_node.specs.Cells.{Cell, Fit, more, none, fresh, noted, notedAll, answerTo, cellAt, Noted, Answered, Filled, NotedColumns, AnsweredColumns}
+use Rattle.check_node.specs.Cells.{Cell, Fit, more, none, fresh, noted, notedAll, answerTo, Noted, Answered, NotedColumns, AnsweredColumns}
 use Rattle.check_node.proofs.Cells.{by-columns}
 
 -- ---- the room that is left: n slots of m from a on
@@ -22,10 +20,6 @@ room-more a n p m l e h = omega (arith, suc-mul p m, rw e at h)
 pub room : (a n m l : ℕ) → 0 < n → a + n * m ≡ l → a + m ≤ l
 room a zero m l b h = absurd (omega (arith, b))
 room a (suc p) m l b h = omega (arith, suc-mul p m, h)
-
--- a product of two numbers up to 4,096
-pub small-product : (d m : ℕ) → d ≤ 4096 → m ≤ 4096 → d * m < 2 ^ 64
-small-product d m hd hm = omega (arith, mul-le-mul hd hm)
 
 -- ---- a part of the work area
 
@@ -167,8 +161,3 @@ pub whole : (scale : Float) (m d : ℕ) (kept₀ kept : ℕ → Cell) (w w' : Li
 whole scale m d kept₀ kept w w' start seen answered c h =
     let cell : kept c ≡ notedAll fresh (columnFrom m d c w) = seen .cells c h ∙ ap (λ (t : Cell). notedAll t (columnFrom m d c w)) (start c h) in
     answered .answers c h ∙ ap (λ (t : Cell). map (answerTo scale t) (columnFrom m d c w)) cell ∙ by-columns scale (columnFrom m d c w) (seen .fit c h)
-
-pub fresh-parts : (m : ℕ) (l₀ s₀ g₀ l s g : List Float) → length l₀ ≡ m → length s₀ ≡ m → length g₀ ≡ m → Filled (inf false) l₀ l → Filled (inf false) s₀ s → Filled one32 g₀ g
-    → (c : ℕ) → c < m → cellAt l s g c ≡ fresh
-unfolding cellAt
-fresh-parts m l₀ s₀ g₀ l s g el es eg fl fs fg c h = rw (fl .all c (omega arith), fs .all c (omega arith), fg .all c (omega arith)) refl

@@ -12,7 +12,7 @@ use borrow.Author.Count.{below-more}
 use Rattle.softmath.specs.Single.{_⊗_, zero32, one32}
 use Rattle.softmath.specs.Functions.{magnitudeOf}
 use Rattle.softmath.specs.CheckNode.{turned}
-use Rattle.check_node.specs.Cells.{Cell, fresh, noted, answerTo, cellAt, cellIn, Noted, Answered, Filled}
+use Rattle.check_node.specs.Cells.{Cell, fresh, noted, answerTo, cellIn, Noted, Answered}
 
 -- ---- a slot seen: what is kept is done below c, and left from c on, wherever it lies
 
@@ -39,26 +39,6 @@ note-by slot kept₀ c kept kept' a x y z h hc f ea ex ey ez eh new old k =
       left = λ i b n. old i n (λ q. omega (arith, q, b)) ∙ k .left i (omega (arith, b)) n;
       fit = below-more _ c (k .fit) f;
     }
-
--- in three lists
-cell-same : (l s g : List Float) (c : ℕ) (x y z : Float) → c < length l → c < length s → c < length g
-    → _≡_ {A = Cell} (cellAt (set l c x) (set s c y) (set g c z) c) (record { least = x; second = y; sign = z })
-unfolding cellAt
-cell-same l s g c x y z hl hs hg = rw (getD-set-same l c x nan hl, getD-set-same s c y nan hs, getD-set-same g c z nan hg) refl
-
-cell-other : (l s g : List Float) (c k : ℕ) (x y z : Float) → (k ≡ c → ⊥) → cellAt (set l c x) (set s c y) (set g c z) k ≡ cellAt l s g k
-unfolding cellAt
-cell-other l s g c k x y z ne = rw (getD-set-other l c k x nan ne, getD-set-other s c k y nan ne, getD-set-other g c k z nan ne) refl
-
-pub note-more : (slot : List Float) (kept₀ : ℕ → Cell) (c : ℕ) (l s g : List Float) (a x y z h : Float) → c < length slot → c < length l → c < length s → c < length g
-    → T (fits binary32 (getD slot c nan))
-    → a ≡ magnitudeOf (getD slot c nan) → x ≡ cond (lt a (getD s c nan)) a (getD s c nan) → y ≡ cond (lt a (getD l c nan)) (getD l c nan) x
-    → z ≡ cond (lt a (getD l c nan)) a (getD l c nan) → h ≡ turned (getD slot c nan) (getD g c nan)
-    → NotedTo slot kept₀ c (cellAt l s g) → NotedTo slot kept₀ (c + 1) (cellAt (set l c z) (set s c y) (set g c h))
-unfolding cellAt
-note-more slot kept₀ c l s g a x y z h hc hl hs hg f ea ex ey ez eh k =
-    note-by slot kept₀ c (cellAt l s g) (cellAt (set l c z) (set s c y) (set g c h)) a x y z h hc f ea ex ey ez eh (cell-same l s g c z y h hl hs hg)
-    (λ i b ne. cell-other l s g c i z y h ne) k
 
 -- in one list, the second n after the least, and the sign n after the second
 module _ (n c : ℕ) (w : List Float) (hc : c < n) (fits : n + n + n ≤ length w) (x y z : Float) where
@@ -139,22 +119,6 @@ module _ (scale : Float) (kept : ℕ → Cell) (slot₀ : List Float) where
 
   pub answer-done : (c : ℕ) (slot : List Float) → length slot₀ ≤ c → length slot ≡ length slot₀ → AnsweredTo scale kept slot₀ c slot → Answered scale kept slot₀ slot
   answer-done c slot h e r = record { long = e; answers = λ i b. r .done i (omega (arith, b, h)) }
-
--- ---- a part filled
-
-pub record FilledTo (x : Float) (c : ℕ) (part : List Float) : Type 0 where
-  pub done : (k : ℕ) → k < c → getD part k nan ≡ x
-
-module _ (x : Float) where
-  pub fill-more : (c : ℕ) (part : List Float) → c < length part → FilledTo x c part → FilledTo x (c + 1) (set part c x)
-  fill-more c part h r =
-      record { done = below-more _ c (λ i b. getD-set-other part c i x nan (λ q. omega (arith, q, b)) ∙ r .done i b) (getD-set-same part c x nan h) }
-
-  pub fill-none : (part : List Float) → FilledTo x 0 part
-  fill-none part = record { done = λ k b. absurd (omega (arith, b)) }
-
-  pub fill-done : (c : ℕ) (part part₀ : List Float) → length part₀ ≤ c → length part ≡ length part₀ → FilledTo x c part → Filled x part₀ part
-  fill-done c part part₀ h e r = record { long = e; all = λ i b. r .done i (omega (arith, b, h)) }
 
 -- ---- one scratch part cleared
 

@@ -209,7 +209,3 @@ module _ (scale : Float) where
   pub by-columns : (vs : List Float) → Fit vs → map (answerTo scale (notedAll fresh vs)) vs ≡ minSum scale vs
   unfolding othersSum foldFrom lt
   by-columns vs f = answers-all vs fresh f (infinite, infinite, refl) ∙ sym (same-answers scale vs ∙ others-shared scale [] vs)
-
-  -- the same at each entry
-  pub by-columns-at : (vs : List Float) → Fit vs → (i : ℕ) → i < length vs → answerTo scale (notedAll fresh vs) (getD vs i nan) ≡ getD (minSum scale vs) i nan
-  by-columns-at vs f i h = sym (map-at (answerTo scale (notedAll fresh vs)) vs i h) ∙ ap (λ (l : List Float). getD l i nan) (by-columns vs f)

@@ -6,14 +6,13 @@ use Prim.Native.Nat.{ℕ, zero, suc, _+_, _*_, _≤_, _<_}
 use native.Mathlib.Nat.{add-left-comm, suc-mul}
 use native.Mathlib.Omega.{arith}
 use lib.ListN.{length, take, drop, getD, length-drop, length-replicate, getD-replicate, List·getD-append}
-use lib.Seq.{length-take-le, getD-take, getD-drop, take-at, drop-at, drop-drop}
+use lib.Seq.{length-take-le, getD-take, getD-drop, drop-at, drop-drop}
 use lib.Ieee.{Float, nan}
 use Rattle.softmath.specs.Single.{_⊗_, one32, foldFrom, product}
 use Rattle.softmath.specs.CheckNode.{atEach}
 use Rattle.slots.specs.Columns.{columnFrom, column}
 use Rattle.softmath.proofs.LeaveOneOut.{carriedFrom, prefix-shared}
-use Rattle.check_node.specs.Products.{times, timesSlots, slotProducts, ones, ByColumns}
-use Rattle.check_node.proofs.Pads.{products-pad}
+use Rattle.check_node.specs.Products.{times, timesSlots, slotProducts, ones}
 use Rattle.check_node.proofs.ProductLoops.{times-length}
 
 -- k places further on in w is w without its first k
@@ -21,15 +20,6 @@ column-drop : (m d p k : ℕ) (w : List Float) → columnFrom m d (k + p) w ≡ 
 unfolding columnFrom
 column-drop m zero p k w = refl
 column-drop m (suc d) p k w = rw (getD-drop k w p nan, add-left-comm m k p, column-drop m d (m + p) k w)
-
--- what the definition means: entry j lies at j * m + p
-pub column-at : (m d p j : ℕ) (w : List Float) → j < d → getD (columnFrom m d p w) j nan ≡ getD w (j * m + p) nan
-unfolding columnFrom
-column-at m zero p j w h = absurd (omega arith)
-column-at m (suc d) p zero w h = ap (λ (i : ℕ). getD w i nan) (omega arith)
-column-at m (suc d) p (suc j) w h =
-    let e : j * m + (m + p) ≡ suc j * m + p = omega (arith, suc-mul j m) in
-    column-at m d (m + p) j w (omega arith) ∙ ap (λ (i : ℕ). getD w i nan) e
 
 times-at : (xs ys : List Float) (c : ℕ) → c < length xs → c < length ys → getD (times xs ys) c nan ≡ getD xs c nan ⊗ getD ys c nan
 unfolding times
@@ -105,26 +95,3 @@ products-rest m (suc d) carried w e h =
     let q = slotProducts m d (times carried (take m w)) (drop m w) in
     let split : suc d * m ≡ m + d * m = omega (arith, suc-mul d m) in
     rw (split, ← drop-drop (d * m) m (p ++ q), ← drop-drop (d * m) m w, drop-at p q m n) (products-rest m d (times carried (take m w)) (drop m w) (next-length m d carried w e h) long)
-
--- ---- a check that lacks its last entry
-
--- a column's last entry
-pub column-last : (m d p : ℕ) (w : List Float) → columnFrom m (suc d) p w ≡ columnFrom m d p w ++ (getD w (d * m + p) nan ∷ [])
-unfolding columnFrom
-column-last m zero p w = ap (λ (i : ℕ). getD w i nan ∷ []) (omega arith)
-column-last m (suc d) p w =
-    let e : d * m + (m + p) ≡ suc d * m + p = omega (arith, suc-mul d m) in
-    ap (λ (l : List Float). getD w p nan ∷ l) (column-last m d (m + p) w ∙ ap (λ (i : ℕ). columnFrom m d (m + p) w ++ (getD w i nan ∷ [])) e)
-
-pub column-length : (m d p : ℕ) (w : List Float) → length (columnFrom m d p w) ≡ d
-unfolding columnFrom
-column-length m zero p w = refl
-column-length m (suc d) p w = ap suc (column-length m d (m + p) w)
-
--- with 1.0 as its pad, its other entries are the products that they would be without it
-pub products-padded : (m d : ℕ) (w v : List Float) (c : ℕ) → ByColumns m (suc d) w v → c < m → getD w (d * m + c) nan ≡ one32 → column m d c v ≡ atEach product (column m d c w)
-products-padded m d w v c b k e =
-    let padded : column m (suc d) c w ≡ column m d c w ++ (one32 ∷ []) = column-last m d c w ∙ ap (λ (x : Float). column m d c w ++ (x ∷ [])) e in
-    let n : length (column m d c v) ≡ length (column m d c w) = column-length m d c v ∙ sym (column-length m d c w) in
-    let whole : column m d c v ++ (getD v (d * m + c) nan ∷ []) ≡ atEach product (column m d c w ++ (one32 ∷ [])) = sym (column-last m d c v) ∙ b .columns c k ∙ ap (atEach product) padded in
-    sym (take-at (column m d c v) (getD v (d * m + c) nan ∷ []) (length (column m d c w)) n) ∙ ap (take (length (column m d c w))) whole ∙ products-pad (column m d c w)

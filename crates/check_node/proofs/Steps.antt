@@ -1,6 +1,6 @@
 -- The check step of a rule down each column, from what its passes leave: for the rules that multiply in three passes, each message by itself, those of
 -- each check together and each answer by itself; for min-sum in one. Assumes nothing.
-use mathlib.Core.Path.{_≡_, refl, sym, ap, _∙_}
+use mathlib.Core.Path.{_≡_, sym, ap, _∙_}
 use mathlib.Core.List.{List, map}
 use Prim.Native.Nat.{ℕ, _*_, _<_, _≤_}
 use native.Mathlib.Omega.{arith}

@@ -45,10 +45,7 @@ pick own l s =
 unfoldable pub answerTo : Float → Cell → Float → Float
 answerTo scale t v = (scale ⊗ turned v (t .sign)) ⊗ pick (eq (magnitudeOf v) (t .least)) (t .least) (t .second)
 
--- what is kept of check c: in three lists, and in one, part after part of n
-unfoldable pub cellAt : List Float → List Float → List Float → ℕ → Cell
-cellAt least second sign c = record { least = getD least c nan; second = getD second c nan; sign = getD sign c nan }
-
+-- what is kept of check c, in one list, part after part of n
 unfoldable pub cellIn : ℕ → List Float → ℕ → Cell
 cellIn n scratch c = record { least = getD scratch c nan; second = getD scratch (n + c) nan; sign = getD scratch (n + n + c) nan }
 
@@ -66,11 +63,6 @@ pub record Noted (slot : List Float) (kept kept' : ℕ → Cell) : Type 0 where
 pub record Answered (scale : Float) (kept : ℕ → Cell) (slot slot' : List Float) : Type 0 where
   pub long : length slot' ≡ length slot
   pub answers : (c : ℕ) → c < length slot → getD slot' c nan ≡ answerTo scale (kept c) (getD slot c nan)
-
--- the same value everywhere
-pub record Filled (x : Float) (part part' : List Float) : Type 0 where
-  pub long : length part' ≡ length part
-  pub all : (c : ℕ) → c < length part → getD part' c nan ≡ x
 
 -- every slot seen, and answered: columnFrom by columnFrom
 pub record NotedColumns (m d : ℕ) (work : List Float) (kept kept' : ℕ → Cell) : Type 0 where

@@ -1,8 +1,8 @@
 -- The (174,91) code's checks by slots: 83 checks of seven entries or six, each position's three places, and the places of the pads. By computation over
 -- all 522 edges. Assumes nothing.
 use mathlib.Core.Path.{_≡_, refl}
-use mathlib.Core.List.{List, map}
-use Prim.Native.Nat.{ℕ, suc, _-_, _<_, _≤_}
+use mathlib.Core.List.{map}
+use Prim.Native.Nat.{ℕ, suc, _-_, _<_}
 use lib.Dec.{ltb, leb}
 use lib.ListN.{length, getD, drop}
 use borrow.Author.Tests.{ltb-true, leb-true}

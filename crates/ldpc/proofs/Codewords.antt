@@ -10,7 +10,7 @@ use lib.Dec.{ltb}
 use lib.ListN.{length, getD, take, drop, take-append-drop, drop-of-length-le}
 use lib.Seq.{drop-cons, drop-at, getD-drop, drop-drop, length-take-le}
 use Rattle.bits.specs.Bits.{bitsOf, bits}
-use Rattle.tanner.specs.Checks.{Word, Checks, parity, count}
+use Rattle.tanner.specs.Checks.{Word, Checks, count}
 use Rattle.tanner.specs.Flat.{Below}
 use Rattle.ldpc.specs.Tables.{generator, nm, numRows}
 use Rattle.ldpc.specs.Code174.{rowsOfSeven, checks}

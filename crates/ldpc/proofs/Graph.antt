@@ -1,19 +1,18 @@
 -- The four arrays of the source are the (174,91) code's checks and each position's edges, laid flat: by computation over all 522 edges.
 -- Assumes nothing.
-use mathlib.Core.Path.{_≡_, refl, sym, ap, ap₂, _∙_}
+use mathlib.Core.Path.{_≡_, refl, ap₂, _∙_}
 use mathlib.Core.List.{List}
-use Prim.Native.Nat.{ℕ, _≤_}
+use Prim.Native.Nat.{ℕ}
 use native.Mathlib.Omega.{arith}
 use lib.Dec.{ltb}
 use lib.ListN.{length, getD}
 use borrow.Author.Tests.{ltb-true}
-use Rattle.tanner.specs.Checks.{Checks}
-use Rattle.tanner.specs.Flat.{joined, ends, offsets, rowsOf, Below, FlatChecks, places, edgesFrom, bitEdges}
+use Rattle.tanner.specs.Flat.{joined, ends, offsets, rowsOf, Below, FlatChecks}
 use Rattle.tanner.proofs.Flat.{rows-laid, flat-checks}
 use Rattle.ldpc.specs.Tables.{nm, numRows}
 use Rattle.ldpc.specs.Code174.{rowsOfSeven, checks}
 use Rattle.ldpc.specs.Agreement.{each}
-use Rattle.ldpc.proofs.Arrays.{checkStart, checkBits, bitStart, bitEdge}
+use Rattle.ldpc.proofs.Arrays.{checkStart, checkBits}
 use Rattle.ldpc.proofs.Tests.{each-at}
 
 -- ---- the checks
@@ -25,22 +24,6 @@ check-bits = refl
 pub check-start : checkStart ≡ offsets checks
 unfolding checkStart checks rowsOfSeven nm numRows ends
 check-start = refl
-
--- ---- each position's edges
-
-computed-edges : bitEdge ≡ joined (edgesFrom 0 174 checkBits)
-unfolding bitEdge checkBits joined edgesFrom places
-computed-edges = refl
-
-computed-starts : bitStart ≡ offsets (edgesFrom 0 174 checkBits)
-unfolding bitStart checkBits ends edgesFrom places
-computed-starts = refl
-
-pub bit-edges : bitEdge ≡ joined (bitEdges 174 checks)
-bit-edges = computed-edges ∙ ap (λ (l : List ℕ). joined (edgesFrom 0 174 l)) check-bits
-
-pub bit-start : bitStart ≡ offsets (bitEdges 174 checks)
-bit-start = computed-starts ∙ ap (λ (l : List ℕ). offsets (edgesFrom 0 174 l)) check-bits
 
 -- ---- what users of the arrays ask
 
@@ -65,24 +48,3 @@ many = refl
 
 pub flat : FlatChecks checkStart checkBits 174
 flat = rw (check-start, check-bits) (flat-checks checks 174 (omega (arith, many)) checks-low)
-
--- what the decoder asks of its arrays, said of what lies in them
-
-pub few-checks : length checkStart ≤ 65536
-unfolding checkStart
-few-checks = omega arith
-
-pub few-edges : length checkBits ≤ 3070
-few-edges = omega (arith, size)
-
-pub starts-laid : checkStart ≡ offsets (rowsOf checkStart checkBits)
-starts-laid = check-start ∙ ap offsets (sym laid)
-
-pub positions-laid : checkBits ≡ joined (rowsOf checkStart checkBits)
-positions-laid = check-bits ∙ ap joined (sym laid)
-
-pub edge-starts-laid : bitStart ≡ offsets (bitEdges 174 (rowsOf checkStart checkBits))
-edge-starts-laid = bit-start ∙ ap (λ (cs : Checks). offsets (bitEdges 174 cs)) (sym laid)
-
-pub edges-laid : bitEdge ≡ joined (bitEdges 174 (rowsOf checkStart checkBits))
-edges-laid = bit-edges ∙ ap (λ (cs : Checks). joined (bitEdges 174 cs)) (sym laid)

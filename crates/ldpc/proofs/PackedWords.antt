@@ -1,16 +1,14 @@
 -- Packed messages and the words of count 0 are one for one: bits packed and unpacked again are the same bits, so a message gives the encoding of its
 -- 91 bits, and that gives the message back. By the laws of bits and of lists. Assumes nothing.
-use mathlib.Core.Path.{_≡_, refl, sym, ap, ap₂, _∙_}
+use mathlib.Core.Path.{_≡_, refl, sym, ap, _∙_}
 use mathlib.Core.List.{List, [], _∷_, _++_, map, append-nil}
-use Prim.Native.Nat.{ℕ, zero, suc, _+_, _*_, _/_, _%_, _^_, _≤_}
+use Prim.Native.Nat.{ℕ, zero, suc, _+_, _*_, _%_, _≤_}
 use native.Mathlib.Nat.{add-zero}
-use native.Mathlib.Numerals.{add-one}
 use native.Mathlib.Omega.{arith}
 use lib.ListN.{length, getD, take, drop, replicate, length-append, length-map, length-drop, take-append-drop}
-use lib.Pow.{shr-shr}
 use lib.Seq.{take-at, drop-append-le, length-take-le, take-all}
-use Rattle.bits.specs.Bits.{bitsOf, bits, numberAfter, number, packed}
-use Rattle.bits.proofs.Digits.{Bytes, bits-are, bits-length, number-append, packed-bits}
+use Rattle.bits.specs.Bits.{bits, numberAfter, number, packed}
+use Rattle.bits.proofs.Digits.{bits-are, bits-length, number-append, packed-bits}
 use Rattle.bits.proofs.AreBits.{AreBits, none, more, areBits-append, areBits-take, zeros-are}
 use Rattle.bits.proofs.Packed.{unpacked, packed-bytes}
 use Rattle.tanner.specs.Checks.{Word}

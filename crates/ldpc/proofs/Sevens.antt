@@ -1,10 +1,10 @@
 -- Counting by the rows of `NM`: a turn of each loop, a table of rows in parts, and that over a word with a byte 0 before it the rows count what the checks count
 -- over the word. The last by one computed test: the rows' positions, counted from 0, are the checks'. Assumes nothing else.
-use mathlib.Core.Path.{_≡_, refl, sym, ap, ap₂, _∙_}
+use mathlib.Core.Path.{_≡_, refl, sym, ap, _∙_}
 use mathlib.Core.Bool.{Bool, true, false, cond}
 use mathlib.Core.List.{List, [], _∷_, map}
 use Prim.Native.Nat.{ℕ, zero, suc, _+_, _-_, _*_, _<_, _≤_}
-use native.Mathlib.Nat.{suc-mul, add-sub-cancel-left}
+use native.Mathlib.Nat.{add-sub-cancel-left}
 use native.Mathlib.Numerals.{add-one}
 use native.Mathlib.Omega.{arith}
 use borrow.Author.Tests.{ltb-true}
@@ -12,10 +12,9 @@ use lib.Bits.{bitXor, bitAnd, xor-zero-r}
 use lib.Dec.{eqb, ltb}
 use lib.ListN.{length, getD, take, drop, set}
 use lib.Seq.{take-take, drop-drop, take-suc, take-suc-set, take-all}
-use Rattle.tanner.specs.Checks.{Checks, First, Syndrome, xorFrom, nonzero, countMasked, measured, firstBy, firstMasked, syndromeMasked}
+use Rattle.tanner.specs.Checks.{Checks, xorFrom, nonzero, countMasked, measured, firstBy, firstMasked}
 use Rattle.tanner.specs.Flat.{Below}
 use Rattle.tanner.proofs.Steps.{part-below}
-use Rattle.tanner.proofs.First.{both}
 use Rattle.ldpc.specs.Agreement.{each}
 use Rattle.ldpc.specs.Code174.{rowsOfSeven, checks}
 use Rattle.ldpc.specs.Rows.{Rows, sevens, fromOne}

@@ -4,8 +4,7 @@ use mathlib.Core.List.{List, [], _∷_}
 use Prim.Native.Nat.{ℕ, _%_}
 use lib.Dec.{eqb}
 use lib.ListN.{length, getD}
-use Rattle.refusal.specs.Outcome.{Outcome, accepted, refused, Condition, _when_}
-use Rattle.refusal.specs.Numbers.{numberOf}
+use Rattle.refusal.specs.Outcome.{Condition, _when_}
 
 -- "input not its fixed length (.. (174,91) 12 bytes ..)", "(174,91) message has a set bit among the low five of byte 11",
 -- "an output not exactly its length"

@@ -145,30 +145,6 @@ fn fill_places(table: &[u16], width: usize, k: u16, m: usize, edges: &mut [u16])
     }
 }
 
-// The edges of position p: its places in the checks.
-fn places(flat: &[u16], p: u16, edges: &mut [u16], from: usize) -> usize {
-    let mut at = from;
-    let mut e = 0;
-    while e < flat.len() {
-        let found = flat[e] == p;
-        at = put_if(found, edges, at, (e % 65536) as u16);
-        e += 1;
-    }
-    at
-}
-
-// Each position's edges, with their starts.
-fn fill_edges(flat: &[u16], n: u16, starts: &mut [u16], edges: &mut [u16]) {
-    let mut at = 0;
-    let mut p: u16 = 0;
-    while p < n {
-        put(starts, p as usize, (at % 65536) as u16);
-        at = places(flat, p, edges, at);
-        p += 1;
-    }
-    put(starts, n as usize, (at % 65536) as u16);
-}
-
 fn print_n512r12() {
     let columns = N512R12::construct();
     let rows = columns.rows;
@@ -176,12 +152,9 @@ fn print_n512r12() {
     let mut check_bits = [0u16; 1279];
     let mut table = [0u16; 768];
     let mut message_edges = [0u16; 768];
-    let mut edge_starts = [0u16; 513];
-    let mut edges = [0u16; 1279];
     fill_checks(&rows, 256, 256, &mut check_starts, &mut check_bits);
     fill_taps(&rows, 256, 256, &mut table);
     fill_places(&table, 3, 256, 256, &mut message_edges);
-    fill_edges(&check_bits, 512, &mut edge_starts, &mut edges);
     print_table(b"\npub const N512R12_ROWS: [u16; 768] = [\n", &rows);
     print_table(
         b"\npub const N512R12_CHECK_STARTS: [u16; 257] = [\n",
@@ -196,11 +169,6 @@ fn print_n512r12() {
         b"\npub const N512R12_EDGES: [u16; 768] = [\n",
         &message_edges,
     );
-    print_table(
-        b"\npub const N512R12_BIT_STARTS: [u16; 513] = [\n",
-        &edge_starts,
-    );
-    print_table(b"\npub const N512R12_BIT_EDGES: [u16; 1279] = [\n", &edges);
 }
 
 fn print_n576r23() {
@@ -210,12 +178,9 @@ fn print_n576r23() {
     let mut check_bits = [0u16; 1535];
     let mut table = [0u16; 1152];
     let mut message_edges = [0u16; 1152];
-    let mut edge_starts = [0u16; 577];
-    let mut edges = [0u16; 1535];
     fill_checks(&rows, 384, 192, &mut check_starts, &mut check_bits);
     fill_taps(&rows, 384, 192, &mut table);
     fill_places(&table, 6, 384, 192, &mut message_edges);
-    fill_edges(&check_bits, 576, &mut edge_starts, &mut edges);
     print_table(b"\npub const N576R23_ROWS: [u16; 1152] = [\n", &rows);
     print_table(
         b"\npub const N576R23_CHECK_STARTS: [u16; 193] = [\n",
@@ -230,11 +195,6 @@ fn print_n576r23() {
         b"\npub const N576R23_EDGES: [u16; 1152] = [\n",
         &message_edges,
     );
-    print_table(
-        b"\npub const N576R23_BIT_STARTS: [u16; 577] = [\n",
-        &edge_starts,
-    );
-    print_table(b"\npub const N576R23_BIT_EDGES: [u16; 1535] = [\n", &edges);
 }
 
 fn print_n512r34() {
@@ -244,12 +204,9 @@ fn print_n512r34() {
     let mut check_bits = [0u16; 1407];
     let mut table = [0u16; 1152];
     let mut message_edges = [0u16; 1152];
-    let mut edge_starts = [0u16; 513];
-    let mut edges = [0u16; 1407];
     fill_checks(&rows, 384, 128, &mut check_starts, &mut check_bits);
     fill_taps(&rows, 384, 128, &mut table);
     fill_places(&table, 9, 384, 128, &mut message_edges);
-    fill_edges(&check_bits, 512, &mut edge_starts, &mut edges);
     print_table(b"\npub const N512R34_ROWS: [u16; 1152] = [\n", &rows);
     print_table(
         b"\npub const N512R34_CHECK_STARTS: [u16; 129] = [\n",
@@ -264,11 +221,6 @@ fn print_n512r34() {
         b"\npub const N512R34_EDGES: [u16; 1152] = [\n",
         &message_edges,
     );
-    print_table(
-        b"\npub const N512R34_BIT_STARTS: [u16; 513] = [\n",
-        &edge_starts,
-    );
-    print_table(b"\npub const N512R34_BIT_EDGES: [u16; 1407] = [\n", &edges);
 }
 
 fn main() {

@@ -2,9 +2,8 @@
 -- is below the room of the messages by computation. Assumes nothing.
 use mathlib.Core.Path.{_≡_, refl, sym, ap, _∙_}
 use mathlib.Core.List.{List, [], _∷_}
-use Prim.Native.Nat.{ℕ, zero, suc, _+_, _*_, _<_, _≤_}
+use Prim.Native.Nat.{ℕ, zero, suc, _+_, _*_, _<_}
 use native.Mathlib.Omega.{arith}
-use lib.ListN.{length}
 use Rattle.construction.specs.Codes.{Code, n512r12, n576r23, n512r34}
 use Rattle.tanner.specs.Checks.{Checks, countMasked}
 use Rattle.tanner.specs.Flat.{Below}

@@ -8,9 +8,7 @@ use borrow.Author.Tests.{ltb-true, lt-ltb}
 use lib.Dec.{ltb}
 use lib.ListN.{length, getD}
 use Rattle.tanner.specs.Checks.{Checks}
-use Rattle.tanner.specs.Flat.{Below}
-use Rattle.slots.specs.Layout.{row, Slotted, padsFrom, padPlaces}
-use Rattle.slots.proofs.Edges.{entry-below}
+use Rattle.slots.specs.Layout.{row, padsFrom, padPlaces}
 
 -- x is the place of the first entry that a check lacks
 pub record Lacks (cs : Checks) (m d c x : ℕ) : Type 0 where
@@ -61,10 +59,3 @@ module _ (m d : ℕ) where
   pad-listed cs k h l =
       let e : 0 + k ≡ k = omega arith in
       rw e at (pads-listed cs 0 k h l)
-
--- they lie in the slots
-pub pads-low : (cs : Checks) (m d : ℕ) → Slotted cs m d → Below (d * m) (padPlaces cs m d)
-unfolding Below
-pads-low cs m d s k h =
-    let l = pads-lack m d cs 0 k h in
-    entry-below m d (length (row cs (l .check))) (l .check) _ (omega (arith, s .count, l .known)) (l .short) (omega (arith, l .place))

@@ -5,18 +5,18 @@ use construction::codes::N512R34;
 use construction::codes::N576R23;
 use libc::STDOUT_FILENO;
 use refusal::Status;
-use staircase::tables::N512R12_BIT_EDGES;
-use staircase::tables::N512R12_BIT_STARTS;
 use staircase::tables::N512R12_CHECK_BITS;
 use staircase::tables::N512R12_CHECK_STARTS;
-use staircase::tables::N512R34_BIT_EDGES;
-use staircase::tables::N512R34_BIT_STARTS;
+use staircase::tables::N512R12_EDGES;
+use staircase::tables::N512R12_TAPS;
 use staircase::tables::N512R34_CHECK_BITS;
 use staircase::tables::N512R34_CHECK_STARTS;
-use staircase::tables::N576R23_BIT_EDGES;
-use staircase::tables::N576R23_BIT_STARTS;
+use staircase::tables::N512R34_EDGES;
+use staircase::tables::N512R34_TAPS;
 use staircase::tables::N576R23_CHECK_BITS;
 use staircase::tables::N576R23_CHECK_STARTS;
+use staircase::tables::N576R23_EDGES;
+use staircase::tables::N576R23_TAPS;
 use tanner::Counting;
 use tanner::FirstCheck;
 
@@ -73,13 +73,13 @@ fn print_checks() {
     print_table(&N512R34_CHECK_BITS);
 }
 
-fn print_edges() {
-    print_table(&N512R12_BIT_STARTS);
-    print_table(&N512R12_BIT_EDGES);
-    print_table(&N576R23_BIT_STARTS);
-    print_table(&N576R23_BIT_EDGES);
-    print_table(&N512R34_BIT_STARTS);
-    print_table(&N512R34_BIT_EDGES);
+fn print_shapes() {
+    print_table(&N512R12_TAPS);
+    print_table(&N512R12_EDGES);
+    print_table(&N576R23_TAPS);
+    print_table(&N576R23_EDGES);
+    print_table(&N512R34_TAPS);
+    print_table(&N512R34_EDGES);
 }
 
 fn print_first(first: FirstCheck) {
@@ -142,7 +142,7 @@ fn replay_one() -> bool {
 fn main() {
     print_columns();
     print_checks();
-    print_edges();
+    print_shapes();
     let mut left: usize = 1000;
     while left > 0 {
         if !replay_one() {

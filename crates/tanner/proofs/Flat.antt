@@ -1,14 +1,14 @@
 -- Check lists laid flat: what lies in the arrays is the check list, and each edge is one of its position's. By induction over the lists. Assumes nothing.
-use mathlib.Core.Path.{_≡_, refl, ap, _∙_}
+use mathlib.Core.Path.{_≡_, refl, ap}
 use mathlib.Core.List.{List, [], _∷_, _++_, append-assoc}
 use Prim.Native.Nat.{ℕ, zero, suc, _+_, _-_, _<_, _≤_}
-use native.Mathlib.Nat.{le-of-suc-le-suc, add-zero, zero-add, add-suc, suc-add}
+use native.Mathlib.Nat.{le-of-suc-le-suc, add-zero, add-suc, suc-add}
 use native.Mathlib.Numerals.{add-one}
 use native.Mathlib.Omega.{arith}
 use lib.ListN.{length, getD, take, drop, length-append}
 use lib.Seq.{take-at, drop-at}
 use Rattle.tanner.specs.Checks.{Checks}
-use Rattle.tanner.specs.Flat.{joined, ends, offsets, cut, rowsFrom, rowsOf, Below, Within, FlatChecks, places, edgesFrom, bitEdges}
+use Rattle.tanner.specs.Flat.{joined, ends, offsets, cut, rowsFrom, rowsOf, Below, Within, FlatChecks, places, edgesFrom}
 use Rattle.tanner.proofs.Count.{AllBelow, none, more}
 use Rattle.tanner.proofs.Places.{places-stand}
 use Rattle.tanner.proofs.Below.{below-none, below-append, below-left, below-right}
@@ -89,13 +89,6 @@ edges-at p zero b flat h = absurd (omega arith)
 edges-at p (suc n) zero flat h = rw add-zero
 edges-at p (suc n) (suc b) flat h = rw (add-suc, ← suc-add) (edges-at (suc p) n b flat (omega arith))
 
-pub bit-edges-length : (n : ℕ) (rs : Checks) → length (offsets (bitEdges n rs)) ≡ suc n
-bit-edges-length n rs = ap suc (ends-length 0 (bitEdges n rs) ∙ edges-length 0 n (joined rs))
-
-pub bit-edges-at : (n b : ℕ) (rs : Checks) → b < n → let es = bitEdges n rs in
-    take (getD (offsets es) (b + 1) 0 - getD (offsets es) b 0) (drop (getD (offsets es) b 0) (joined es)) ≡ places b 0 (joined rs)
-bit-edges-at n b rs h = row-at (bitEdges n rs) b (omega (arith, edges-length 0 n (joined rs))) ∙ rw zero-add at (edges-at 0 n b (joined rs) h)
-
 -- they are edges
 
 places-low : (p : ℕ) (flat : List ℕ) → Below (length flat) (places p 0 flat)
@@ -106,9 +99,6 @@ edges-low : (p n : ℕ) (flat : List ℕ) → Below (length flat) (joined (edges
 unfolding edgesFrom joined
 edges-low p zero flat = below-none (length flat)
 edges-low p (suc n) flat = below-append (length flat) (places p 0 flat) (joined (edgesFrom (suc p) n flat)) (places-low p flat) (edges-low (suc p) n flat)
-
-pub bit-edges-low : (n : ℕ) (rs : Checks) → Below (length (joined rs)) (joined (bitEdges n rs))
-bit-edges-low n rs = edges-low 0 n (joined rs)
 
 pub offsets-length : (rs : Checks) → length (offsets rs) ≡ suc (length rs)
 offsets-length rs = ap suc (ends-length 0 rs)

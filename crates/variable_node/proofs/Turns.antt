@@ -1,19 +1,17 @@
 -- One turn of each loop over the bits: the edges of a bit are the entries of its table or the two places of its slots, and what is written there is
 -- its channel value, or its new messages. Assumes nothing.
-use mathlib.Core.Path.{_≡_, refl, ap, _∙_}
-use mathlib.Core.Bool.{true, false}
+use mathlib.Core.Path.{_≡_, refl, ap}
 use mathlib.Core.List.{List, [], _∷_}
-use Prim.Native.Nat.{ℕ, zero, suc, _+_, _-_, _*_, _<_, _≤_}
+use Prim.Native.Nat.{ℕ, suc, _+_, _-_, _*_, _<_, _≤_}
 use native.Mathlib.Omega.{arith}
 use borrow.Author.Tests.{lt-ltb, le-ltb}
-use lib.Dec.{ltb}
 use lib.Ieee.{Float, nan}
-use lib.ListN.{length, getD, set, drop, take}
+use lib.ListN.{length, getD, set}
 use lib.Seq.{drop-cons}
 use Rattle.softmath.specs.Single.{_⊕_, _⊖_, zero32, foldFrom}
 use Rattle.softmath.specs.Functions.{decide}
 use Rattle.softmath.specs.CheckNode.{overOthers}
-use Rattle.softmath.specs.VariableNode.{newMessages, messageTotal, answersAt, putAt}
+use Rattle.softmath.specs.VariableNode.{newMessages, answersAt, putAt}
 use Rattle.softmath.specs.declared.SumKind.{SumKind}
 use Rattle.softmath.specs.declared.SumKind.the-variants.{Total, Others}
 use Rattle.tanner.specs.Flat.{Below}

@@ -1,6 +1,6 @@
 -- `belief::clear` meets its contract. The invariant: what is passed is +0.0. Assumes nothing.
 use mathlib.Core.Path.{_≡_, sym}
-use Prim.Native.Nat.{_+_, _-_, _≤_}
+use Prim.Native.Nat.{_-_, _≤_}
 use native.Mathlib.Omega.{arith}
 use lib.ListN.{length, take, replicate, length-set, length-replicate, getD-replicate}
 use Rattle.softmath.specs.Single.{zero32}
@@ -8,8 +8,6 @@ use Rattle.belief.proofs.Fill.{fill-more, fill-done}
 use borrow.Author.Needs.{needs}
 use Rattle.belief.proofs.clear.Statement.{statement}
 use Rattle.belief.proofs.clear.Tie as tie
-use Rattle.belief.proofs.clear.Reads as reads
-use Rattle.belief.proofs.clear.Lts as lts
 
 abbrev Inv-loop : tie.InvT-loop
 Inv-loop part₀ i₀ part i = (i ≤ length part₀) × (length part ≡ length part₀) × (take i part ≡ take i (replicate (length part₀) zero32))

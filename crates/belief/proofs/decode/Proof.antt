@@ -1,7 +1,6 @@
 -- `belief::decode` meets its contract: the choice over the front of the work area, and then its first 3,070 places cleared. Assumes nothing.
 use mathlib.Core.Path.{sym, _∙_}
 use native.Mathlib.Omega.{arith}
-use lib.ListN.{length}
 use lib.Seq.{length-take-le}
 use Rattle.softmath.specs.Single.{zero32}
 use Rattle.belief.specs.Area.{cleared}

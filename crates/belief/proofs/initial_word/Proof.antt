@@ -10,9 +10,6 @@ use Rattle.belief.proofs.Fill.{fill-more, fill-done}
 use borrow.Author.Needs.{needs}
 use Rattle.belief.proofs.initial_word.Statement.{statement}
 use Rattle.belief.proofs.initial_word.Tie as tie
-use Rattle.belief.proofs.initial_word.Reads as reads
-use Rattle.belief.proofs.initial_word.Lts as lts
-use Rattle.softmath.proofs.decide.Reads as decide-reads
 
 abbrev Inv-loop : tie.InvT-loop
 Inv-loop llr hard₀ i₀ hard i = (i ≤ length llr) × (length hard ≡ length llr) × (take i hard ≡ take i (map decide llr))

@@ -8,8 +8,6 @@ use Rattle.belief.proofs.Fill.{fill-more, fill-done}
 use borrow.Author.Needs.{needs}
 use Rattle.belief.proofs.keep_word.Statement.{statement}
 use Rattle.belief.proofs.keep_word.Tie as tie
-use Rattle.belief.proofs.keep_word.Reads as reads
-use Rattle.belief.proofs.keep_word.Lts as lts
 
 abbrev Inv-loop : tie.InvT-loop
 Inv-loop hard bits₀ i₀ bits i = (i ≤ length bits₀) × (length bits ≡ length bits₀) × (take i bits ≡ take i (take (length bits₀) hard))

@@ -13,7 +13,7 @@ use Rattle.tanner.specs.Found.{syndromeOf}
 use Rattle.passes.specs.Codes.{sizeN, sizeM, degree, room}
 use Rattle.belief.specs.Rounds.{Decode, wordsFrom, chosenFrom, better}
 use Rattle.belief.specs.Run.{HeldBy, Kept, decodeAt}
-use Rattle.belief.proofs.Loop.{Running, round-masked, round-found, kept-better, kept-same, round-on, round-out, rounds-out}
+use Rattle.belief.proofs.Loop.{Running, round-found, kept-better, kept-same, round-on, round-out, rounds-out}
 use borrow.Author.Needs.{needs}
 use Rattle.belief.proofs.rounds.Statement.{statement}
 use Rattle.belief.proofs.rounds.Tie as tie

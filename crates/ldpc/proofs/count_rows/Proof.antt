@@ -3,17 +3,14 @@ use mathlib.Core.Path.{_≡_}
 use mathlib.Core.Logic.{⊎-elim}
 use Prim.Native.Nat.{_+_, _-_, _*_, _≤_}
 use native.Mathlib.Omega.{arith}
-use lib.ListN.{length, drop}
+use lib.ListN.{drop}
 use Rattle.tanner.specs.Checks.{countMasked}
 use Rattle.tanner.proofs.Steps.{part-below, count-more, count-same, count-done}
 use Rattle.ldpc.specs.Rows.{sevens}
-use Rattle.ldpc.proofs.Sevens.{row-fits, rows-more, rows-done, rows-all}
+use Rattle.ldpc.proofs.Sevens.{rows-more, rows-done, rows-all}
 use borrow.Author.Needs.{needs}
 use Rattle.ldpc.proofs.count_rows.Statement.{statement}
 use Rattle.ldpc.proofs.count_rows.Tie as tie
-use Rattle.ldpc.proofs.count_rows.Reads as reads
-use Rattle.ldpc.proofs.count_rows.Lts as lts
-use Rattle.ldpc.proofs.xor_row.Reads as xor-row-reads
 
 abbrev Inv-loop : tie.InvT-loop
 Inv-loop rows table padded mask count₀ c₀ a₀ count c a =

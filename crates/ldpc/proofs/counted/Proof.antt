@@ -6,10 +6,6 @@ use Rattle.ldpc.proofs.Sevens.{nm-whole, behind-counted, behind-first}
 use borrow.Author.Needs.{needs}
 use Rattle.ldpc.proofs.counted.Statement.{statement}
 use Rattle.ldpc.proofs.counted.Tie as tie
-use Rattle.ldpc.proofs.counted.Reads as reads
-use Rattle.ldpc.proofs.counted.Lts as lts
-use Rattle.ldpc.proofs.count_word.Reads as count-word-reads
-use Rattle.ldpc.proofs.first_row.Reads as first-row-reads
 
 count-word-requires : tie.Need-count-word-requires
 count-word-requires c κs = search needs

@@ -10,9 +10,6 @@ use Rattle.ldpc.proofs.Sevens.{rows-more, rows-done, rows-all}
 use borrow.Author.Needs.{needs}
 use Rattle.ldpc.proofs.first_row.Statement.{statement}
 use Rattle.ldpc.proofs.first_row.Tie as tie
-use Rattle.ldpc.proofs.first_row.Reads as reads
-use Rattle.ldpc.proofs.first_row.Lts as lts
-use Rattle.ldpc.proofs.xor_row.Reads as xor-row-reads
 
 abbrev Inv-loop : tie.InvT-loop
 Inv-loop table padded mask c₀ a₀ c a =

@@ -13,10 +13,6 @@ use Rattle.ldpc.proofs.Counting.{bytes-counted}
 use borrow.Author.Needs.{needs}
 use Rattle.ldpc.proofs.ldpc_count_errors.Statement.{statement}
 use Rattle.ldpc.proofs.ldpc_count_errors.Tie as tie
-use Rattle.ldpc.proofs.ldpc_count_errors.Reads as reads
-use Rattle.ldpc.proofs.ldpc_count_errors.Lts as lts
-use Rattle.ldpc.proofs.counted.Reads as counted-reads
-use Rattle.ldpc.proofs.padded_word.Reads as padded-word-reads
 
 returns : tie.Need-returns
 returns c = simp (ne-eqb _ _ (c .if1 .taken))

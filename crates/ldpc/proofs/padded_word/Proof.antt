@@ -8,8 +8,6 @@ use Rattle.ldpc.proofs.Sevens.{pad-more, pad-done}
 use borrow.Author.Needs.{needs}
 use Rattle.ldpc.proofs.padded_word.Statement.{statement}
 use Rattle.ldpc.proofs.padded_word.Tie as tie
-use Rattle.ldpc.proofs.padded_word.Reads as reads
-use Rattle.ldpc.proofs.padded_word.Lts as lts
 
 abbrev Inv-loop : tie.InvT-loop
 Inv-loop hard padded₀ i₀ padded i = (i ≤ 174) × (length padded ≡ 175) × (take (i + 1) padded ≡ take (i + 1) (0 ∷ hard))

@@ -9,8 +9,6 @@ use Rattle.tanner.proofs.Steps.{xor-more, xor-done}
 use borrow.Author.Needs.{needs}
 use Rattle.ldpc.proofs.xor_row.Statement.{statement}
 use Rattle.ldpc.proofs.xor_row.Tie as tie
-use Rattle.ldpc.proofs.xor_row.Reads as reads
-use Rattle.ldpc.proofs.xor_row.Lts as lts
 
 abbrev Inv-loop : tie.InvT-loop
 Inv-loop row padded x₀ i₀ x i = (i ≤ length row) × (xorFrom x (drop i row) padded ≡ xorFrom 0 row padded)

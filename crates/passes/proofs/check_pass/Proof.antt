@@ -1,5 +1,5 @@
 -- `passes::check_pass` meets its contract, code by code: its pads are the places that its checks lack. Assumes nothing.
-use mathlib.Core.Path.{_≡_, refl, sym}
+use mathlib.Core.Path.{refl}
 use native.Mathlib.Omega.{arith}
 use Rattle.ldpc.proofs.Arrays.{slotPads}
 use Rattle.passes.specs.Codes.{sizeM, checksBy, degree, room}

@@ -3,7 +3,6 @@ use mathlib.Core.Path.{refl}
 use native.Mathlib.Omega.{arith}
 use Rattle.passes.specs.Codes.{sizeM, degree, room}
 use Rattle.passes.proofs.Tables.{last-code}
-use borrow.Author.Needs.{needs}
 use Rattle.passes.proofs.message_room.Statement.{statement}
 use Rattle.passes.proofs.message_room.Tie as tie
 

@@ -1,6 +1,6 @@
 -- `variable_node::paired_first` meets its contract. The invariant: the parity bits below i have their first messages. Assumes nothing.
 use mathlib.Core.Path.{_≡_, refl}
-use Prim.Native.Nat.{ℕ, _+_, _-_, _<_, _≤_}
+use Prim.Native.Nat.{_+_, _-_, _<_, _≤_}
 use native.Mathlib.Omega.{arith}
 use lib.ListN.{length, length-set}
 use Rattle.variable_node.specs.Passes.{turns, parityFirst}
