@@ -7,7 +7,9 @@ src--src--fec--ldpc_codes.rs.txt). rustc must be on the path.
 
 The Rust keeps the check step and the variable node inside its decoders, so their text is cut out of
 the two files and compiled unchanged inside a small harness: what it prints is the expected output.
-The only lines put in are those that hand the decision sum out.
+
+A bit of three edges has its answers at places 3, 7 and 1 of the floats (records 5 and 6). Record 9 is three parity
+bits of a staircase code, whose answers lie at 3 and 7, at 4 and 8, and at 5.
 
 Records 7 and 8 are the min-sum records 2 and 3 again: the program answers them by its second engine,
 and the Rust's answers are the same."""
@@ -16,7 +18,8 @@ import os, random, re, struct, subprocess, sys, tempfile
 SRC = os.environ.get('ORION_SRC')
 if not SRC:
     sys.exit(__doc__)
-EDGES = [3, 7, 1, 9, 0, 5, 10, 2, 8, 4, 6]
+EDGES = [3, 7, 1]
+PARITY = [[3, 7], [4, 8], [5]]
 
 
 def source(*names):
@@ -48,7 +51,6 @@ def harness():
     functions = lambda t: cut(t, 'fn fast_tanh', 'fn fast_tanh') + '\n' + cut(t, 'fn fast_atanh', 'fn fast_atanh')
     ft8_decided = cut(ft8, '// Variable-node hard decision', 'for i in 0..N')
     stair_decided = cut(stair, '// Variable-node hard decision', 'for (bit, checks)')
-    assert ft8_decided.count('plain[i] = ') == 1 and stair_decided.count('hard[bit] = ') == 1
     return '''
 #![allow(non_snake_case, unused)]
 use std::io::Read;
@@ -61,13 +63,13 @@ mod ft8 {
         CHECK_FT8
         e[0].clone()
     }
-    pub fn bit(value: f32, answers: &[f32]) -> (f32, u8, Vec<f32>) {
+    pub fn bit(value: f32, answers: &[f32]) -> (u8, Vec<f32>) {
         let (N, llr, MN) = (1, [value], [[1, 2, 3]]);
         let e: Vec<Vec<f32>> = answers.iter().map(|a| vec![*a]).collect();
-        let (mut m, mut plain, mut sums) = (e.clone(), [0u8], [0.0f32]);
+        let (mut m, mut plain) = (e.clone(), [0u8]);
         DECIDED_FT8
         MESSAGES_FT8
-        (sums[0], plain[0], m.iter().map(|r| r[0]).collect())
+        (plain[0], m.iter().map(|r| r[0]).collect())
     }
 }
 mod stair {
@@ -92,29 +94,31 @@ mod stair {
         fn check_into(&self, check_start: &[usize], msg: &[f32], ext: &mut [f32], tanh_half: &mut [f32], rule: DecodeRule) {
             CHECK_STAIR
         }
-        pub fn bit(value: f32, answers: &[f32]) -> (f32, u8, Vec<f32>) {
+        pub fn bit(value: f32, answers: &[f32]) -> (u8, Vec<f32>) {
             let n = answers.len();
             let g = Graph { check_bits: vec![], bit_checks: vec![(0..n).collect()], bit_check_edge_idx: vec![vec![0; n]] };
             let check_start: Vec<usize> = (0..n).collect();
-            let (mut hard, mut sums, mut msg) = (vec![0u8], vec![0.0f32], vec![0.0f32; n]);
-            g.bit_into(&check_start, &[value], answers, &mut hard, &mut sums, &mut msg);
-            (sums[0], hard[0], msg)
+            let (mut hard, mut msg) = (vec![0u8], vec![0.0f32; n]);
+            g.bit_into(&check_start, &[value], answers, &mut hard, &mut msg);
+            (hard[0], msg)
         }
-        fn bit_into(&self, check_start: &[usize], llr: &[f32], ext: &[f32], hard: &mut [u8], sums: &mut [f32], msg: &mut [f32]) {
+        fn bit_into(&self, check_start: &[usize], llr: &[f32], ext: &[f32], hard: &mut [u8], msg: &mut [f32]) {
             DECIDED_STAIR
             MESSAGES_STAIR
         }
     }
 }
-const EDGES: [usize; 11] = EDGES_LIST;
+const EDGES: [usize; 3] = EDGES_LIST;
+const PARITY: [&[usize]; 3] = PARITY_LIST;
 fn show(x: f32) {
     if x.is_nan() { println!("nan") } else { println!("{:08x}", x.to_bits()) }
 }
-fn show_bit(answer: (f32, u8, Vec<f32>), work: &[f32], n: usize) {
+fn show_bits(answers: &[(u8, Vec<f32>)], places: &[&[usize]], work: &[f32]) {
     let mut after = work.to_vec();
-    for k in 0..n { after[EDGES[k]] = answer.2[k]; }
-    show(answer.0);
-    println!("{:08x}", answer.1);
+    for (answer, places) in answers.iter().zip(places) {
+        println!("{:08x}", answer.0);
+        for (k, &place) in places.iter().enumerate() { after[place] = answer.1[k]; }
+    }
     after.iter().for_each(|x| show(*x));
 }
 fn main() {
@@ -124,7 +128,7 @@ fn main() {
         let words: Vec<f32> = record.chunks_exact(4).map(|b| f32::from_le_bytes([b[0], b[1], b[2], b[3]])).collect();
         let (what, n, parameter, work) = (record[0], record[1] as usize, words[1], &words[2..]);
         let part = &work[..n];
-        let answers: Vec<f32> = (0..n).map(|k| work[EDGES[k]]).collect();
+        let at = |places: &[usize]| places.iter().map(|&p| work[p]).collect::<Vec<f32>>();
         use stair::{DecodeRule, Graph};
         match what {
             0 => for &x in part {
@@ -138,8 +142,9 @@ fn main() {
             2 | 7 => Graph::check(part, DecodeRule::MinSum).iter().for_each(|x| show(*x)),
             3 | 8 => Graph::check(part, DecodeRule::ScaledMinSum(parameter)).iter().for_each(|x| show(*x)),
             4 => ft8::check(part).iter().for_each(|x| show(*x)),
-            5 => show_bit(Graph::bit(parameter, &answers), work, n),
-            6 => show_bit(ft8::bit(parameter, &answers), work, n),
+            5 => show_bits(&[Graph::bit(parameter, &at(&EDGES))], &[&EDGES], work),
+            6 => show_bits(&[ft8::bit(parameter, &at(&EDGES))], &[&EDGES], work),
+            9 => show_bits(&PARITY.map(|places| Graph::bit(parameter, &at(places))), &PARITY, work),
             _ => unreachable!(),
         }
     }
@@ -147,13 +152,14 @@ fn main() {
 '''.replace('pub FUNCTIONS_FT8', functions(ft8).replace('fn fast', 'pub fn fast')) \
    .replace('pub FUNCTIONS_STAIR', functions(stair).replace('fn fast', 'pub fn fast')) \
    .replace('CHECK_FT8', cut(ft8, '// Check-node update', 'for j in 0..M')) \
-   .replace('DECIDED_FT8', ft8_decided.replace('plain[i] = ', 'sums[i] = l; plain[i] = ')) \
+   .replace('DECIDED_FT8', ft8_decided) \
    .replace('MESSAGES_FT8', cut(ft8, '// Variable-to-check update', 'for i in 0..N')) \
    .replace('RULE', cut(stair, 'pub enum DecodeRule', 'pub enum DecodeRule')) \
    .replace('CHECK_STAIR', cut(stair, '// Check-node update', 'for (c, bits)')) \
-   .replace('DECIDED_STAIR', stair_decided.replace('hard[bit] = ', 'sums[bit] = l; hard[bit] = ')) \
+   .replace('DECIDED_STAIR', stair_decided) \
    .replace('MESSAGES_STAIR', cut(stair, '// Variable→check update', 'for (bit, checks)')) \
-   .replace('EDGES_LIST', str(EDGES))
+   .replace('EDGES_LIST', str(EDGES)) \
+   .replace('PARITY_LIST', str(PARITY).replace('[', '&[').replace('&[&', '[&', 1))
 
 
 # ---- the inputs
@@ -189,14 +195,14 @@ def inputs():
                 draw = usual if turn < 6 else (lambda: r.choice(NEAR)) if turn < 10 else mixed
                 out.append(record(what, degree, r.choice(SCALES), [draw() for _ in range(degree)]))
     out.append(record(2, 4, 0, [bits(2.0), bits(-3.0), bits(2.0), 0x7fc00000]))
-    scattered = lambda answers: [answers[EDGES.index(i)] if EDGES.index(i) < len(answers) else 0x3f000000 + i for i in range(11)]
-    for what, counts in ((5, range(1, 7)), (6, [3, 3])):
-        out.append(record(what, 3, bits(16777216.0), scattered([bits(1.0), bits(1.0), 0])))
-        for n in counts:
-            out.append(record(what, n, 0x80000000, scattered([0x80000000] * n)))
-            for turn in range(24):
-                draw = usual if turn < 8 else mixed
-                out.append(record(what, n, draw(), scattered([draw() for _ in range(n)])))
+    for what in (5, 6, 9):
+        floats = [bits(1.0)] * 11
+        floats[1] = 0
+        out.append(record(what, 11, bits(16777216.0), floats))
+        out.append(record(what, 11, 0x80000000, [0x80000000] * 11))
+        for turn in range(72):
+            draw = usual if turn < 24 else mixed
+            out.append(record(what, 11, draw(), [draw() for _ in range(11)]))
     for what in (2, 3):
         for degree in range(1, 12):
             for few in ([bits(2.0), bits(-2.0)], [0, 0x80000000], [0x7fc00000], [0x7fc00000, bits(1.0), bits(-1.0)], [0x7f800000, 0xff800000, 0x7fc00000]):

@@ -128,21 +128,6 @@ fn products_slots(m: usize, d: usize, work: &mut [f32], scratch: &mut [f32])
 
 // ---- min-sum: of each check the least magnitude, the second and the sign, without a place
 
-// The sign with v's: a NaN and -0.0 are not negative.
-fn turn_sign(v: f32, sign: f32) -> f32
-    ensures { λ r. ⌜ r ≡ turned v sign ⌝ }
-{
-    let h = -sign;
-    if v < 0.0 { h } else { sign }
-}
-
-// The lesser of two: b where neither is less, which a NaN never is.
-fn lesser(a: f32, b: f32) -> f32
-    ensures { λ r. ⌜ r ≡ cond (lt a b) a b ⌝ }
-{
-    if a < b { a } else { b }
-}
-
 // The greater of two: b where neither is.
 fn greater(a: f32, b: f32) -> f32
     ensures { λ r. ⌜ r ≡ cond (lt b a) a b ⌝ }
@@ -205,10 +190,10 @@ fn note_in(m: usize, slot: &[f32], scratch: &mut [f32])
         let s = scratch[m + c];
         let g = scratch[q + c];
         let a = softmath::magnitude(v);
-        let x = lesser(a, s);
+        let x = softmath::lesser(a, s);
         let y = pushed(a, l, x);
-        let z = lesser(a, l);
-        let h = turn_sign(v, g);
+        let z = softmath::lesser(a, l);
+        let h = softmath::turn_sign(v, g);
         scratch[m + c] = y;
         scratch[c] = z;
         scratch[q + c] = h;
@@ -231,9 +216,9 @@ fn answer_in(rule: DecodeRule, m: usize, slot: &mut [f32], scratch: &[f32])
         let s = scratch[m + c];
         let g = scratch[q + c];
         let a = softmath::magnitude(v);
-        let t = turn_sign(v, g);
+        let t = softmath::turn_sign(v, g);
         let k = where_equal(a, l, infinity, 0.0);
-        let x = lesser(s, k);
+        let x = softmath::lesser(s, k);
         let o = greater(x, l);
         slot[c] = scale * t * o;
         c += 1;

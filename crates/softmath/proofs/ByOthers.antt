@@ -16,12 +16,18 @@ use lib.Ieee.Positive.{through}
 use borrow.Author.Tests.{ltb-true, ltb-false, lt-ltb, le-ltb, eqb-true, eq-eqb, ne-eqb}
 use Rattle.softmath.specs.Single.{_⊗_, zero32, one32, foldFrom}
 use Rattle.softmath.specs.Functions.{magnitudeOf}
-use Rattle.softmath.specs.CheckNode.{overOthers, noneSeen, turned, seen, minimaFrom, minimaOf, minAnswer, minAnswers, minSum, checkStep}
+use Rattle.softmath.specs.CheckNode.{Minima, overOthers, noneSeen, turned, seen, minimaFrom, minimaOf, minAnswer, minAnswers, minSum, checkStep}
 use Rattle.softmath.specs.Others.{lesserOf, turnedBy, leastOf, signOf, othersAnswer, othersSum}
 use Rattle.softmath.specs.declared.DecodeRule.the-variants.{MinSum, ScaledMinSum}
-use Rattle.softmath.specs.declared.Minima.{Minima}
 use Rattle.softmath.proofs.LeaveOneOut.{fold-append}
-use Rattle.softmath.proofs.MinSum.{lt-self}
+
+lt-self : (x y : Float) → lt x y ≡ true → eq x x ≡ true
+unfolding lt eq
+lt-self nan y h = cc
+lt-self (inf true) y h = refl
+lt-self (inf false) y h = refl
+lt-self (fin true m e) y h = rw (eq-eqb (m * up e * down e) (m * up e * down e) refl) refl
+lt-self (fin false m e) y h = rw (eq-eqb (m * up e * down e) (m * up e * down e) refl) refl
 
 -- ---- the order of magnitudes
 

@@ -18,12 +18,6 @@ front-whole n l e = take-all n l (omega (arith, e))
 pub front-length : {A : Type 0} (n : ℕ) (l : List A) → length l ≡ n → n ≡ length (take n l)
 front-length n l e = sym (ap length (front-whole n l e) ∙ e)
 
--- what was made of the part, with the rest, which is nothing, behind it
-pub front-done : {A : Type 0} (f : List A → List A) (n : ℕ) (l r : List A) → length l ≡ n → r ≡ f (take n l) → r ++ drop n l ≡ f l
-front-done f n l r e made =
-    let short : length l ≤ n = omega (arith, e) in
-    rw (drop-of-length-le l short, append-nil) (made ∙ ap f (front-whole n l e))
-
 -- A loop that reads each element: G says what is left to do from the state s with the elements that are left.
 module _ {A S R : Type 0} (G : S → List A → R) (next : S → A → List A → S) (step : (s : S) (x : A) (xs : List A) → G s (x ∷ xs) ≡ G (next s x xs) xs) (d : A) where
   pub read-more : (l : List A) (r : R) (i : ℕ) (s t : S) → i < length l → t ≡ next s (getD l i d) (drop (i + 1) l) → G s (drop i l) ≡ r → G t (drop (i + 1) l) ≡ r

@@ -1,12 +1,12 @@
 -- A leave-one-out fold in order, over any operation and start, may share its prefix: by induction over the entries that are left. Assumes nothing.
 use mathlib.Core.Path.{_≡_, refl}
 use mathlib.Core.List.{List, [], _∷_, _++_}
-use Prim.Native.Nat.{ℕ, _+_, _-_, _≤_, _<_}
-use lib.ListN.{length, take, drop, getD, set}
+use Prim.Native.Nat.{ℕ, _+_, _<_}
+use lib.ListN.{length, drop, getD}
 use lib.Ieee.{Float, nan}
 use Rattle.softmath.specs.Single.{foldFrom}
 use Rattle.softmath.specs.CheckNode.{overOthers}
-use Rattle.softmath.proofs.InPlace.{rest-whole, place-more, place-done, read-more}
+use Rattle.softmath.proofs.InPlace.{read-more}
 
 module _ (op : Float → Float → Float) where
   -- at each entry the fold of the entries after it, started from the fold of those before
@@ -29,13 +29,3 @@ module _ (op : Float → Float → Float) where
   pub fold-more : (l : List Float) (r : Float) (i : ℕ) (s : Float) → i < length l → foldFrom op s (drop i l) ≡ r → foldFrom op (op s (getD l i nan)) (drop (i + 1) l) ≡ r
   unfolding foldFrom
   fold-more l r i s h k = read-more (foldFrom op) (λ s x xs. op s x) (λ s x xs. refl) nan l r i s _ h refl k
-
-  -- a turn of a loop that puts the folds of the others in place
-  pub carried-more : (l r : List Float) (i : ℕ) (s v : Float) → i < length l → v ≡ foldFrom op s (take (length l - (i + 1)) (drop (i + 1) l)) → take i l ++ carriedFrom s (drop i l) ≡ r
-      → take (i + 1) (set l i v) ++ carriedFrom (op s (getD l i nan)) (drop (i + 1) (set l i v)) ≡ r
-  unfolding carriedFrom
-  carried-more l r i s v h e k = place-more carriedFrom (λ s x xs. foldFrom op s xs) (λ s x. op s x) (λ s x xs. refl) nan l r i s _ v h (rw (rest-whole l (i + 1)) at e) refl k
-
-  pub carried-done : (l r : List Float) (i : ℕ) (s : Float) → length l ≤ i → take i l ++ carriedFrom s (drop i l) ≡ r → l ≡ r
-  unfolding carriedFrom
-  carried-done l r i s h k = place-done carriedFrom (λ s x xs. foldFrom op s xs) (λ s x. op s x) (λ s x xs. refl) nan (λ s. refl) l r i s h k

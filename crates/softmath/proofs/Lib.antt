@@ -1,9 +1,7 @@
 pub mod InPlace
 pub mod LeaveOneOut
 pub mod Signless
-pub mod MinSum
 pub mod ByOthers
-pub mod Edges
 pub mod Steps
 pub mod Messages
 pub mod ZeroStart

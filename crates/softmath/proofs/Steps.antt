@@ -7,10 +7,9 @@ use lib.ListN.{length, length-map}
 use lib.Ieee.{Float, nan, inf, fin, binary32, unlike, div, neg}
 use Rattle.softmath.specs.Single.{_⊘_, two32, product}
 use Rattle.softmath.specs.Functions.{tanh}
-use Rattle.softmath.specs.CheckNode.{overOthers, atEach, minAnswers, minSum, minimaOf, halfTanh, negatedHalfTanh, checkStep, before, middle, after}
+use Rattle.softmath.specs.CheckNode.{Minima, overOthers, atEach, minAnswers, minSum, minimaOf, halfTanh, negatedHalfTanh, checkStep, before, middle, after}
 use Rattle.softmath.specs.declared.DecodeRule.{DecodeRule}
 use Rattle.softmath.specs.declared.DecodeRule.the-variants.{SumProduct, MinSum, ScaledMinSum, Ft8}
-use Rattle.softmath.specs.declared.Minima.{Minima}
 
 -- ---- a divisor's sign may go to the dividend
 

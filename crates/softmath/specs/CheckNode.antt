@@ -8,7 +8,6 @@ use Rattle.softmath.specs.Single.{_⊗_, _⊘_, zero32, one32, two32, pr
 use Rattle.softmath.specs.Functions.{tanh, atanh, clampUnit, magnitudeOf}
 use Rattle.softmath.specs.declared.DecodeRule.{DecodeRule}
 use Rattle.softmath.specs.declared.DecodeRule.the-variants.{SumProduct, MinSum, ScaledMinSum, Ft8}
-use Rattle.softmath.specs.declared.Minima.{Minima}
 
 -- ---- leave one out
 
@@ -22,6 +21,12 @@ abbrev pub atEach : (List Float → Float) → List Float → List Float
 atEach f xs = overOthers f [] xs
 
 -- ---- min-sum, "as in the file": the two least magnitudes, where the least is first met, and the sign of the product
+
+pub record Minima : Type 0 where
+  pub least : Float
+  pub second : Float
+  pub place : ℕ
+  pub sign : Float
 
 -- nothing seen yet
 abbrev pub noneSeen : Minima

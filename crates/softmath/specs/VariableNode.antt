@@ -43,18 +43,3 @@ unfoldable pub putAt : List ℕ → List Float → List Float → List Float
 putAt [] vs w = w
 putAt (e ∷ es) [] w = w
 putAt (e ∷ es) (v ∷ vs) w = putAt es vs (set w e v)
-
--- edge by edge, the total less the own answer in its place
-unfoldable pub lessOwn : Float → List ℕ → List Float → List Float
-lessOwn total [] w = w
-lessOwn total (e ∷ es) w = lessOwn total es (set w e (total ⊖ getD w e nan))
-
--- edge by edge, the sum of the others in its place: `passed` is the channel value with the answers passed so far
-unfoldable pub othersSummed : Float → List ℕ → List Float → List Float
-othersSummed passed [] w = w
-othersSummed passed (e ∷ es) w = othersSummed (passed ⊕ getD w e nan) es (set w e (sumFrom passed (answersAt w es)))
-
--- the work area after the bit's new messages took the place of its answers, edge by edge
-unfoldable pub bitTurned : SumKind → Float → List ℕ → List Float → List Float
-bitTurned Total llr edges w = lessOwn (messageTotal llr (answersAt w edges)) edges w
-bitTurned Others llr edges w = othersSummed llr edges w

@@ -15,8 +15,10 @@ const MOST_RECORDS: usize = 8192;
 
 const FLOATS: usize = 11;
 
-// Where a bit's answers lie among the floats: scattered, each place once.
-const EDGES: [u16; 11] = [3, 7, 1, 9, 0, 5, 10, 2, 8, 4, 6];
+// Where a bit's three answers lie among the floats.
+const EDGES: [u16; 3] = [3, 7, 1];
+
+const NO_PADS: [u16; 1] = [0];
 
 fn print_float(x: f32) {
     if x != x {
@@ -86,10 +88,11 @@ fn functions(floats: &[f32], n: usize) {
     }
 }
 
+// One check is a work area whose slots have one place each.
 fn check_step(rule: DecodeRule, part: &mut [f32]) {
-    softmath::before_checks(rule, part);
-    softmath::at_check(rule, part);
-    softmath::after_checks(rule, part);
+    let none = NO_PADS;
+    let n = part.len();
+    check_node::check_step(rule, 1, n, &none[..0], part);
     print_floats(part);
 }
 
@@ -117,16 +120,33 @@ fn check_by_others(scale: f32, floats: &[f32], n: usize)
     }
 }
 
-// The decision sum, the decision as a word, and the work area with the new messages in it.
-fn bit(kind: SumKind, llr: f32, floats: &mut [f32], n: usize)
-    requires { ⌜ n ≤ 11 ⌝ }
+fn print_bit(bit: u8) {
+    io::print_hex(STDOUT_FILENO, bit as u64, 8);
+    io::write_all(STDOUT_FILENO, b"\n");
+}
+
+// A bit of three edges: its decision, and the work area with the new messages in it.
+fn bit(kind: SumKind, llr: f32, floats: &mut [f32])
     requires { ⌜ 11 ≡ length (now floats) ⌝ }
 {
+    let value = [llr];
     let edges = EDGES;
-    print_float(softmath::sum_at(llr, floats, &edges[..n]));
-    let decided = softmath::bit_step(kind, llr, floats, &edges[..n]);
-    io::print_hex(STDOUT_FILENO, decided as u64, 8);
-    io::write_all(STDOUT_FILENO, b"\n");
+    let mut hard = [0u8; 1];
+    variable_node::listed_bits(kind, 1, &value, &edges, floats, &mut hard);
+    print_bit(hard[0]);
+    print_floats(floats);
+}
+
+// Three parity bits, whose edges lie in two slots from place 3 on: the decisions, and the work area with the new messages in it.
+fn parity(llr: f32, floats: &mut [f32])
+    requires { ⌜ 11 ≡ length (now floats) ⌝ }
+{
+    let values = [llr; 3];
+    let mut hard = [0u8; 3];
+    variable_node::parity_bits(0, 3, 3, &values, floats, &mut hard);
+    print_bit(hard[0]);
+    print_bit(hard[1]);
+    print_bit(hard[2]);
     print_floats(floats);
 }
 
@@ -144,10 +164,11 @@ fn replay(bytes: &[u8; 52]) {
         2 => check(DecodeRule::MinSum, &mut floats, n),
         3 => check(DecodeRule::ScaledMinSum(parameter), &mut floats, n),
         4 => check(DecodeRule::Ft8, &mut floats, n),
-        5 => bit(SumKind::Total, parameter, &mut floats, n),
-        6 => bit(SumKind::Others, parameter, &mut floats, n),
+        5 => bit(SumKind::Total, parameter, &mut floats),
+        6 => bit(SumKind::Others, parameter, &mut floats),
         7 => check_by_others(1.0, &floats, n),
         8 => check_by_others(parameter, &floats, n),
+        9 => parity(parameter, &mut floats),
         _ => {}
     }
 }
