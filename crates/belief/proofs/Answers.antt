@@ -1,4 +1,5 @@
--- The check step down each column, a pad in the place of an entry that a check lacks, is the check step of the definition. By induction over the checks. Assumes nothing.
+-- The check step down each column, a pad in the place of an entry that a check lacks, is the check step of the definition. By induction over the checks.
+-- Assumes nothing.
 use mathlib.Core.Path.{_≡_, refl, sym, ap, _∙_}
 use mathlib.Core.List.{List, [], _∷_, _++_, map}
 use Prim.Native.Nat.{ℕ, zero, suc, _+_, _*_, _<_, _≤_}
@@ -50,7 +51,9 @@ module _ (f : List Float → List Float) (keeps : (r : List Float) → length (f
           → take (length r) (f (take (length r) ms) ++ joined (map f (byCheck rs (drop (length r) ms)))) ≡ f (take (length r) ms)
           → drop (length r) (f (take (length r) ms) ++ joined (map f (byCheck rs (drop (length r) ms)))) ≡ joined (map f (byCheck rs (drop (length r) ms)))
           → ((i : ℕ) → i < length rs → getD (byCheck rs (joined (map f (byCheck rs (drop (length r) ms))))) i [] ≡ f (getD (byCheck rs (drop (length r) ms)) i []))
-          → getD (take (length r) (f (take (length r) ms) ++ joined (map f (byCheck rs (drop (length r) ms)))) ∷ byCheck rs (drop (length r) (f (take (length r) ms) ++ joined (map f (byCheck rs (drop (length r) ms)))))) c [] ≡ f (getD (take (length r) ms ∷ byCheck rs (drop (length r) ms)) c [])
+          → getD (take (length r) (f (take (length r) ms) ++ joined (map f (byCheck rs (drop (length r) ms)))) ∷ byCheck rs (drop (length r) (f (take
+          (length r) ms) ++ joined (map f (byCheck rs (drop (length r) ms)))))) c [] ≡ f (getD (take (length r) ms ∷ byCheck rs (drop
+          (length r) ms)) c [])
       by zero h t d i = t
       by (suc c) h t d i = rw d (i c (omega arith))
 

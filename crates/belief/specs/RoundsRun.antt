@@ -1,4 +1,5 @@
--- What the number of rounds run is (change request N1): "0 if the initial word's count is 0, otherwise the number of the round that reached count 0, or the limit".
+-- What the number of rounds run is (change request N1): "0 if the initial word's count is 0, otherwise the number of the round that reached count 0, or the
+-- limit".
 use mathlib.Core.Path.{_≡_}
 use mathlib.Core.List.{List}
 use Prim.Native.Nat.{ℕ, suc, _<_}

@@ -1,4 +1,5 @@
--- Min-sum without a place: the answers from the two least magnitudes and the sign of a columnFrom are min-sum's, whatever ties, NaN, infinities and zeros it holds.
+-- Min-sum without a place: the answers from the two least magnitudes and the sign of a columnFrom are min-sum's, whatever ties, NaN, infinities and zeros it
+-- holds.
 -- The own entry is the least one exactly where its magnitude equals the least: if two tie, the second is the same float, and a NaN equals nothing.
 -- By one induction over the columnFrom: what is picked for an entry that was passed is the least magnitude of its others so far. Assumes nothing.
 use mathlib.Core.Bool.{Bool, true, false, cond}

@@ -1,4 +1,5 @@
--- What `ldpc_count_errors` counts: mask 255 counts whole bytes, and on words of bits that is the number of unsatisfied checks. By the laws of every check list, at
+-- What `ldpc_count_errors` counts: mask 255 counts whole bytes, and on words of bits that is the number of unsatisfied checks. By the laws of every check
+-- list, at
 -- this one. Assumes nothing.
 use mathlib.Core.Path.{_≡_}
 use mathlib.Core.List.{List}

@@ -1,4 +1,5 @@
--- Counting by the rows of `NM`: a turn of each loop, a table of rows in parts, and that over a word with a byte 0 before it the rows count what the checks count
+-- Counting by the rows of `NM`: a turn of each loop, a table of rows in parts, and that over a word with a byte 0 before it the rows count what the checks
+-- count
 -- over the word. The last by one computed test: the rows' positions, counted from 0, are the checks'. Assumes nothing else.
 use mathlib.Core.Path.{_≡_, refl, sym, ap, _∙_}
 use mathlib.Core.Bool.{Bool, true, false, cond}
@@ -91,7 +92,8 @@ module _ (mask : ℕ) (p : List ℕ) (n : length p ≡ 175) (z : getD p 0 0 ≡ 
 -- ---- in parts
 
 -- the first n rows, and the rest
-pub count-parts : (mask : ℕ) (bytes : List ℕ) (n k : ℕ) (t : List ℕ) → countMasked mask (sevens (n + k) t) bytes ≡ countMasked mask (sevens n t) bytes + countMasked mask (sevens k (drop (n * 7) t)) bytes
+pub count-parts : (mask : ℕ) (bytes : List ℕ) (n k : ℕ) (t : List ℕ) → countMasked mask (sevens (n + k) t) bytes ≡ countMasked mask
+    (sevens n t) bytes + countMasked mask (sevens k (drop (n * 7) t)) bytes
 unfolding countMasked sevens
 count-parts mask bytes zero k t =
     let z : 0 + k ≡ k = omega arith in

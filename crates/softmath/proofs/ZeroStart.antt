@@ -1,4 +1,5 @@
--- Whether the sum of the answers starts from 0.0 or from -0.0 changes no new message: the two sums differ only where every answer is -0.0, and taking off the own answer, which is then -0.0 too, makes both totals one.
+-- Whether the sum of the answers starts from 0.0 or from -0.0 changes no new message: the two sums differ only where every answer is -0.0, and taking off
+-- the own answer, which is then -0.0 too, makes both totals one.
 -- Assumes nothing.
 use mathlib.Core.Path.{_≡_, refl, sym, _∙_}
 use mathlib.Core.Logic.{_⊎_, inl, inr, ⊎-elim}

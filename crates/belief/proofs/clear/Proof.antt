@@ -36,7 +36,8 @@ loop-again c =
     let now = c .before .loop in (
       omega arith,
       simp length-set (omega arith),
-      fill-more (replicate n zero32) zero32 now.part now.i _ (simp length-replicate (omega arith)) (simp length-replicate (omega arith)) (sym (getD-replicate n now.i zero32 zero32 (omega arith))) now.inv.2,
+      fill-more (replicate n zero32) zero32 now.part now.i _ (simp length-replicate (omega arith)) (simp length-replicate (omega arith)) (sym
+          (getD-replicate n now.i zero32 zero32 (omega arith))) now.inv.2,
     )
 
 same-length : tie.Need-same-length Inv-loop μ-loop

@@ -44,14 +44,16 @@ loop-again c =
     let now = c .before .before .before .loop in (
       omega arith,
       simp length-set (omega arith),
-      fill-more (map decide llr) (decide nan) now.hard now.i _ (simp length-map (omega arith)) (simp length-map (omega arith)) (c .decide .ensures ∙ sym (List·getD-map decide llr now.i nan)) now.inv.2,
+      fill-more (map decide llr) (decide nan) now.hard now.i _ (simp length-map (omega arith)) (simp length-map (omega arith)) (c .decide .ensures ∙ sym
+          (List·getD-map decide llr now.i nan)) now.inv.2,
     )
 
 same-length : tie.Need-same-length Inv-loop μ-loop
 same-length c = search needs
 
 returns : tie.Need-returns Inv-loop μ-loop
-returns c = fill-done (map decide (c .before .before .before .before .args .llr .now)) (decide nan) (c .before .loop .hard) (c .before .loop .i) (simp length-map (omega arith)) (simp length-map (omega arith)) (c .before .loop .inv .2)
+returns c = fill-done (map decide (c .before .before .before .before .args .llr .now)) (decide nan) (c .before .loop .hard) (c .before .loop .i)
+    (simp length-map (omega arith)) (simp length-map (omega arith)) (c .before .loop .inv .2)
 
 pub initial-word-spec : {M : Type 1} → statement M
 initial-word-spec =

@@ -1,4 +1,5 @@
--- `check_node::products_slots` meets its contract. The invariant: what is passed, with the products of the slots that are left, the carried ones in the scratch, is the answer.
+-- `check_node::products_slots` meets its contract. The invariant: what is passed, with the products of the slots that are left, the carried ones in the
+-- scratch, is the answer.
 -- Assumes nothing.
 use mathlib.Core.Path.{_≡_, sym}
 use mathlib.Core.List.{_++_}
@@ -22,10 +23,12 @@ abbrev μ-loop : tie.MeasureT-loop
 μ-loop m d work₀ scratch₀ left₀ a₀ work scratch left a = left
 
 -- in a turn: the slot lies in the work area, with those after it, and the scratch has room for two
-fits : (c : tie.In-loop Inv-loop μ-loop) → c .before .loop .a + c .before .before .before .before .before .before .before .before .args .m + (c .before .loop .left - 1) * c .before .before .before .before .before .before .before .before .args .m ≤ length (c .before .loop .work)
+fits : (c : tie.In-loop Inv-loop μ-loop) → c .before .loop .a + c .before .before .before .before .before .before .before .before .args .m +
+    (c .before .loop .left - 1) * c .before .before .before .before .before .before .before .before .args .m ≤ length (c .before .loop .work)
 fits c = room _ _ _ _ (c .loop-test .taken) (c .before .loop .inv .0)
 
-long : (c : tie.In-loop Inv-loop μ-loop) → c .before .before .before .before .before .before .before .before .args .m + c .before .before .before .before .before .before .before .before .args .m ≤ length (c .before .loop .scratch)
+long : (c : tie.In-loop Inv-loop μ-loop) → c .before .before .before .before .before .before .before .before .args .m + c .before .before .before .before
+    .before .before .before .before .args .m ≤ length (c .before .loop .scratch)
 long c = omega arith
 
 slice-relend-prefix-ones-slot : tie.Need-slice-relend-prefix-ones-slot Inv-loop μ-loop

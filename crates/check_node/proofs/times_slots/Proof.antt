@@ -17,7 +17,8 @@ abbrev μ-loop : tie.MeasureT-loop
 
 -- in a turn: the slot lies in the rest, with those after it
 fits : (c : tie.In-loop Inv-loop μ-loop)
-    → c .before .loop .a + c .before .before .before .before .args .m + (c .before .loop .n - 1) * c .before .before .before .before .args .m ≤ length (c .before .before .before .before .args .rest .now)
+    → c .before .loop .a + c .before .before .before .before .args .m + (c .before .loop .n - 1) * c .before .before .before .before .args .m ≤ length
+    (c .before .before .before .before .args .rest .now)
 fits c = room _ _ _ _ (c .loop-test .taken) (c .before .loop .inv .1)
 
 loop-holds : tie.Need-loop-holds Inv-loop μ-loop

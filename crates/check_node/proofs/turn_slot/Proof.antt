@@ -48,7 +48,8 @@ slice-relend-prefix-times-slot c = search needs
 
 slice-aggregate-times-slot : tie.Need-slice-aggregate-times-slot
 slice-aggregate-times-slot c =
-    let long : c .before .before .before .before .before .before .before .before .before .before .before .before .before .args .m ≤ length (c .before .before .before .before .before .before .before .before .before .copy-behind .last .1 .0) = omega arith in
+    let long : c .before .before .before .before .before .before .before .before .before .before .before .before .before .args .m ≤ length
+    (c .before .before .before .before .before .before .before .before .before .copy-behind .last .1 .0) = omega arith in
     front-length _ (c .before .before .before .before .before .before .before .before .before .copy-behind .last .1 .0) (c .before .before .before .times-slots .last .1 .1 .0) long
 
 mul-times-slot : tie.Need-mul-times-slot
@@ -68,7 +69,8 @@ times-slot-requires c κs =
     let start = c .before .before .before .before .before .before .before .before .before .before .before .before .before .before .before in
     let long : start .args .m ≤ length (c .before .before .before .before .before .before .before .before .before .before .before .copy-behind .last .1 .0) = omega arith in
     let room : start .args .a + start .args .m ≤ length (start .args .work .now) = omega arith in
-    front-slot _ _ (c .before .before .before .before .before .before .before .before .before .before .before .copy-behind .last .1 .0) (c .before .before .before .before .before .times-slots .last .1 .1 .0) _ long room
+    front-slot _ _ (c .before .before .before .before .before .before .before .before .before .before .before .copy-behind .last .1 .0)
+    (c .before .before .before .before .before .times-slots .last .1 .1 .0) _ long room
 
 mul-copy-slot : tie.Need-mul-copy-slot
 mul-copy-slot c = search needs
@@ -108,7 +110,9 @@ returns c =
     let behind = c .before .before .before .before .before .before .before .before .before .before .before .before .before .before .before .before .before .before .before .before in
     let start = behind .before .before .before .before in
     turn-done _ _ _ _ _ (start .pre .0) (start .pre .1) _ _ _ _
-    (behind .copy-behind .ensures) (c .before .before .before .before .before .before .before .before .before .before .before .before .before .before .times-slots .ensures) (c .before .before .before .before .before .before .before .before .times-slot .ensures) (c .before .before .copy-slot .ensures)
+    (behind .copy-behind .ensures) (c .before .before .before .before .before .before .before .before .before .before .before .before .before .before
+    .times-slots .ensures) (c .before .before .before .before .before .before .before .before .times-slot .ensures)
+    (c .before .before .copy-slot .ensures)
 
 pub turn-slot-spec : {M : Type 1} → statement M
 turn-slot-spec =

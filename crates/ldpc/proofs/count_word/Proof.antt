@@ -28,44 +28,59 @@ so-far2 c = let s = c .before .before .before .before .before .before .before .a
 abbrev sum3 : tie.After-count-rows3 → ℕ
 sum3 c = sum2 (c .before .before .before) + c .count-rows3 .result
 
-so-far3 : (c : tie.After-count-rows3) → let s = c .before .before .before .before .before .before .before .before .before .before .args in sum3 c ≡ countMasked (s .mask) (sevens 33 nm) (s .padded .now)
+so-far3 : (c : tie.After-count-rows3) → let s = c .before .before .before .before .before .before .before .before .before .before .args in sum3 c ≡
+    countMasked (s .mask) (sevens 33 nm) (s .padded .now)
 unfolding nm
-so-far3 c = let s = c .before .before .before .before .before .before .before .before .before .before .args in rows-and (s .mask) (s .padded .now) 22 11 _ _ (so-far2 (c .before .before .before)) (c .count-rows3 .ensures)
+so-far3 c = let s = c .before .before .before .before .before .before .before .before .before .before .args in rows-and (s .mask)
+    (s .padded .now) 22 11 _ _ (so-far2 (c .before .before .before)) (c .count-rows3 .ensures)
 
 abbrev sum4 : tie.After-count-rows4 → ℕ
 sum4 c = sum3 (c .before .before .before) + c .count-rows4 .result
 
-so-far4 : (c : tie.After-count-rows4) → let s = c .before .before .before .before .before .before .before .before .before .before .before .before .before .args in sum4 c ≡ countMasked (s .mask) (sevens 44 nm) (s .padded .now)
+so-far4 : (c : tie.After-count-rows4) → let s = c .before .before .before .before .before .before .before .before .before .before .before .before .before
+    .args in sum4 c ≡ countMasked (s .mask) (sevens 44 nm) (s .padded .now)
 unfolding nm
-so-far4 c = let s = c .before .before .before .before .before .before .before .before .before .before .before .before .before .args in rows-and (s .mask) (s .padded .now) 33 11 _ _ (so-far3 (c .before .before .before)) (c .count-rows4 .ensures)
+so-far4 c = let s = c .before .before .before .before .before .before .before .before .before .before .before .before .before .args in rows-and (s .mask)
+    (s .padded .now) 33 11 _ _ (so-far3 (c .before .before .before)) (c .count-rows4 .ensures)
 
 abbrev sum5 : tie.After-count-rows5 → ℕ
 sum5 c = sum4 (c .before .before .before) + c .count-rows5 .result
 
-so-far5 : (c : tie.After-count-rows5) → let s = c .before .before .before .before .before .before .before .before .before .before .before .before .before .before .before .before .args in sum5 c ≡ countMasked (s .mask) (sevens 55 nm) (s .padded .now)
+so-far5 : (c : tie.After-count-rows5) → let s = c .before .before .before .before .before .before .before .before .before .before .before .before .before
+    .before .before .before .args in sum5 c ≡ countMasked (s .mask) (sevens 55 nm) (s .padded .now)
 unfolding nm
-so-far5 c = let s = c .before .before .before .before .before .before .before .before .before .before .before .before .before .before .before .before .args in rows-and (s .mask) (s .padded .now) 44 11 _ _ (so-far4 (c .before .before .before)) (c .count-rows5 .ensures)
+so-far5 c = let s = c .before .before .before .before .before .before .before .before .before .before .before .before .before .before .before .before .args
+    in rows-and (s .mask) (s .padded .now) 44 11 _ _ (so-far4 (c .before .before .before)) (c .count-rows5 .ensures)
 
 abbrev sum6 : tie.After-count-rows6 → ℕ
 sum6 c = sum5 (c .before .before .before) + c .count-rows6 .result
 
-so-far6 : (c : tie.After-count-rows6) → let s = c .before .before .before .before .before .before .before .before .before .before .before .before .before .before .before .before .before .before .before .args in sum6 c ≡ countMasked (s .mask) (sevens 66 nm) (s .padded .now)
+so-far6 : (c : tie.After-count-rows6) → let s = c .before .before .before .before .before .before .before .before .before .before .before .before .before
+    .before .before .before .before .before .before .args in sum6 c ≡ countMasked (s .mask) (sevens 66 nm) (s .padded .now)
 unfolding nm
-so-far6 c = let s = c .before .before .before .before .before .before .before .before .before .before .before .before .before .before .before .before .before .before .before .args in rows-and (s .mask) (s .padded .now) 55 11 _ _ (so-far5 (c .before .before .before)) (c .count-rows6 .ensures)
+so-far6 c = let s = c .before .before .before .before .before .before .before .before .before .before .before .before .before .before .before .before
+    .before .before .before .args in rows-and (s .mask) (s .padded .now) 55 11 _ _ (so-far5 (c .before .before .before)) (c .count-rows6 .ensures)
 
 abbrev sum7 : tie.After-count-rows7 → ℕ
 sum7 c = sum6 (c .before .before .before) + c .count-rows7 .result
 
-so-far7 : (c : tie.After-count-rows7) → let s = c .before .before .before .before .before .before .before .before .before .before .before .before .before .before .before .before .before .before .before .before .before .before .args in sum7 c ≡ countMasked (s .mask) (sevens 77 nm) (s .padded .now)
+so-far7 : (c : tie.After-count-rows7) → let s = c .before .before .before .before .before .before .before .before .before .before .before .before .before
+    .before .before .before .before .before .before .before .before .before .args in sum7 c ≡ countMasked (s .mask) (sevens 77 nm) (s .padded .now)
 unfolding nm
-so-far7 c = let s = c .before .before .before .before .before .before .before .before .before .before .before .before .before .before .before .before .before .before .before .before .before .before .args in rows-and (s .mask) (s .padded .now) 66 11 _ _ (so-far6 (c .before .before .before)) (c .count-rows7 .ensures)
+so-far7 c = let s = c .before .before .before .before .before .before .before .before .before .before .before .before .before .before .before .before
+    .before .before .before .before .before .before .args in rows-and (s .mask) (s .padded .now) 66 11 _ _ (so-far6 (c .before .before .before))
+    (c .count-rows7 .ensures)
 
 abbrev sum8 : tie.After-count-rows8 → ℕ
 sum8 c = sum7 (c .before .before .before) + c .count-rows8 .result
 
-so-far8 : (c : tie.After-count-rows8) → let s = c .before .before .before .before .before .before .before .before .before .before .before .before .before .before .before .before .before .before .before .before .before .before .before .before .before .args in sum8 c ≡ countMasked (s .mask) (sevens 83 nm) (s .padded .now)
+so-far8 : (c : tie.After-count-rows8) → let s = c .before .before .before .before .before .before .before .before .before .before .before .before .before
+    .before .before .before .before .before .before .before .before .before .before .before .before .args in sum8 c ≡ countMasked (s .mask) (sevens 83 nm)
+    (s .padded .now)
 unfolding nm
-so-far8 c = let s = c .before .before .before .before .before .before .before .before .before .before .before .before .before .before .before .before .before .before .before .before .before .before .before .before .before .args in rows-and (s .mask) (s .padded .now) 77 6 _ _ (so-far7 (c .before .before .before)) (c .count-rows8 .ensures)
+so-far8 c = let s = c .before .before .before .before .before .before .before .before .before .before .before .before .before .before .before .before
+    .before .before .before .before .before .before .before .before .before .args in rows-and (s .mask) (s .padded .now) 77 6 _ _ (so-far7
+    (c .before .before .before)) (c .count-rows8 .ensures)
 
 sub-count-rows : tie.Need-sub-count-rows
 sub-count-rows c = search needs
@@ -126,7 +141,8 @@ unfolding nm
 count-rows-requires-4 c κs = nm-part 231 11 _ refl (omega arith) (c .before .before .before .before .before .before .before .before .before .before .before .before .pre)
 
 add-n-3 : tie.Need-add-n-3
-add-n-3 c = let s = c .before .before .before .before .before .before .before .before .before .before .before .before .before .args in omega (arith, so-far4 c, rows-few (s .mask) (s .padded .now) 44 nm)
+add-n-3 c = let s = c .before .before .before .before .before .before .before .before .before .before .before .before .before .args in omega
+    (arith, so-far4 c, rows-few (s .mask) (s .padded .now) 44 nm)
 
 sub-count-rows-5 : tie.Need-sub-count-rows-5
 sub-count-rows-5 c = search needs
@@ -142,7 +158,8 @@ unfolding nm
 count-rows-requires-5 c κs = nm-part 308 11 _ refl (omega arith) (c .before .before .before .before .before .before .before .before .before .before .before .before .before .before .before .pre)
 
 add-n-4 : tie.Need-add-n-4
-add-n-4 c = let s = c .before .before .before .before .before .before .before .before .before .before .before .before .before .before .before .before .args in omega (arith, so-far5 c, rows-few (s .mask) (s .padded .now) 55 nm)
+add-n-4 c = let s = c .before .before .before .before .before .before .before .before .before .before .before .before .before .before .before .before .args
+    in omega (arith, so-far5 c, rows-few (s .mask) (s .padded .now) 55 nm)
 
 sub-count-rows-6 : tie.Need-sub-count-rows-6
 sub-count-rows-6 c = search needs
@@ -155,10 +172,12 @@ part-count-rows-end-6 c = search needs
 
 count-rows-requires-6 : tie.Need-count-rows-requires-6
 unfolding nm
-count-rows-requires-6 c κs = nm-part 385 11 _ refl (omega arith) (c .before .before .before .before .before .before .before .before .before .before .before .before .before .before .before .before .before .before .pre)
+count-rows-requires-6 c κs = nm-part 385 11 _ refl (omega arith)
+    (c .before .before .before .before .before .before .before .before .before .before .before .before .before .before .before .before .before .before .pre)
 
 add-n-5 : tie.Need-add-n-5
-add-n-5 c = let s = c .before .before .before .before .before .before .before .before .before .before .before .before .before .before .before .before .before .before .before .args in omega (arith, so-far6 c, rows-few (s .mask) (s .padded .now) 66 nm)
+add-n-5 c = let s = c .before .before .before .before .before .before .before .before .before .before .before .before .before .before .before .before
+    .before .before .before .args in omega (arith, so-far6 c, rows-few (s .mask) (s .padded .now) 66 nm)
 
 sub-count-rows-7 : tie.Need-sub-count-rows-7
 sub-count-rows-7 c = search needs
@@ -171,10 +190,13 @@ part-count-rows-end-7 c = search needs
 
 count-rows-requires-7 : tie.Need-count-rows-requires-7
 unfolding nm
-count-rows-requires-7 c κs = nm-part 462 11 _ refl (omega arith) (c .before .before .before .before .before .before .before .before .before .before .before .before .before .before .before .before .before .before .before .before .before .pre)
+count-rows-requires-7 c κs = nm-part 462 11 _ refl (omega arith)
+    (c .before .before .before .before .before .before .before .before .before .before .before .before .before .before .before .before .before .before
+    .before .before .before .pre)
 
 add-n-6 : tie.Need-add-n-6
-add-n-6 c = let s = c .before .before .before .before .before .before .before .before .before .before .before .before .before .before .before .before .before .before .before .before .before .before .args in omega (arith, so-far7 c, rows-few (s .mask) (s .padded .now) 77 nm)
+add-n-6 c = let s = c .before .before .before .before .before .before .before .before .before .before .before .before .before .before .before .before
+    .before .before .before .before .before .before .args in omega (arith, so-far7 c, rows-few (s .mask) (s .padded .now) 77 nm)
 
 sub-count-rows-8 : tie.Need-sub-count-rows-8
 sub-count-rows-8 c = search needs
@@ -187,10 +209,13 @@ part-count-rows-end-8 c = search needs
 
 count-rows-requires-8 : tie.Need-count-rows-requires-8
 unfolding nm
-count-rows-requires-8 c κs = nm-part 539 6 _ refl (omega arith) (c .before .before .before .before .before .before .before .before .before .before .before .before .before .before .before .before .before .before .before .before .before .before .before .before .pre)
+count-rows-requires-8 c κs = nm-part 539 6 _ refl (omega arith)
+    (c .before .before .before .before .before .before .before .before .before .before .before .before .before .before .before .before .before .before
+    .before .before .before .before .before .before .pre)
 
 add-n-7 : tie.Need-add-n-7
-add-n-7 c = let s = c .before .before .before .before .before .before .before .before .before .before .before .before .before .before .before .before .before .before .before .before .before .before .before .before .before .args in omega (arith, so-far8 c, rows-few (s .mask) (s .padded .now) 83 nm)
+add-n-7 c = let s = c .before .before .before .before .before .before .before .before .before .before .before .before .before .before .before .before
+    .before .before .before .before .before .before .before .before .before .args in omega (arith, so-far8 c, rows-few (s .mask) (s .padded .now) 83 nm)
 
 returns : tie.Need-returns
 returns c = so-far8 c

@@ -42,8 +42,12 @@ loop-less c = search needs
 loop-again : tie.Need-loop-again Inv-loop μ-loop
 loop-again c =
     let loop = c .before .before in
-    let args = loop .before .before .before .before .args in
-    (search needs, search needs, byte-more (codeByte (now (args .generator)) (now (args .message))) (loop .loop .codeword) (loop .loop .j) (c .code-byte .result) (search needs) (c .code-byte .ensures) (loop .loop .inv .2))
+    let args = loop .before .before .before .before .args in (
+      search needs,
+      search needs,
+      byte-more (codeByte (now (args .generator)) (now (args .message))) (loop .loop .codeword) (loop .loop .j)
+          (c .code-byte .result) (search needs) (c .code-byte .ensures) (loop .loop .inv .2),
+    )
 
 same-length : tie.Need-same-length Inv-loop μ-loop
 same-length c = search needs

@@ -11,7 +11,8 @@ use Rattle.variable_node.proofs.listed_bits.Statement.{statement}
 use Rattle.variable_node.proofs.listed_bits.Tie as tie
 
 abbrev Inv-loop : tie.InvT-loop
-Inv-loop kind n llr table messages₀ hard₀ a₀ b₀ messages hard a b = (b ≤ n) × (a ≡ b * 3) × (length messages ≡ length messages₀) × (length hard ≡ length hard₀) × (passOf hard messages ≡ turns (threeTurn kind llr table) b (passOf hard₀ messages₀))
+Inv-loop kind n llr table messages₀ hard₀ a₀ b₀ messages hard a b = (b ≤ n) × (a ≡ b * 3) × (length messages ≡ length messages₀) ×
+    (length hard ≡ length hard₀) × (passOf hard messages ≡ turns (threeTurn kind llr table) b (passOf hard₀ messages₀))
 
 abbrev μ-loop : tie.MeasureT-loop
 μ-loop kind n llr table messages₀ hard₀ a₀ b₀ messages hard a b = n - b

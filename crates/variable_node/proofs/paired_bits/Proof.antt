@@ -11,7 +11,8 @@ use Rattle.variable_node.proofs.paired_bits.Statement.{statement}
 use Rattle.variable_node.proofs.paired_bits.Tie as tie
 
 abbrev Inv-loop : tie.InvT-loop
-Inv-loop k m from llr messages₀ hard₀ next i₀ messages hard i = (i + 1 ≤ m) × (length messages ≡ length messages₀) × (length hard ≡ length hard₀) × (passOf hard messages ≡ turns (parityTurn llr k m from) i (passOf hard₀ messages₀))
+Inv-loop k m from llr messages₀ hard₀ next i₀ messages hard i = (i + 1 ≤ m) × (length messages ≡ length messages₀) × (length hard ≡ length hard₀) ×
+    (passOf hard messages ≡ turns (parityTurn llr k m from) i (passOf hard₀ messages₀))
 
 abbrev μ-loop : tie.MeasureT-loop
 μ-loop k m from llr messages₀ hard₀ next i₀ messages hard i = m - i
