@@ -16,8 +16,8 @@ print-columns-requires c κs = search needs
 print-checks-requires : tie.Need-print-checks-requires Inv-loop μ-loop
 print-checks-requires c κs = search needs
 
-print-edges-requires : tie.Need-print-edges-requires Inv-loop μ-loop
-print-edges-requires c κs = search needs
+print-shapes-requires : tie.Need-print-shapes-requires Inv-loop μ-loop
+print-shapes-requires c κs = search needs
 
 loop-holds : tie.Need-loop-holds Inv-loop μ-loop
 loop-holds c = refl
@@ -48,7 +48,7 @@ main-spec =
     μ-loop
     print-columns-requires
     print-checks-requires
-    print-edges-requires
+    print-shapes-requires
     loop-holds
     replay-one-requires
     returns
