@@ -8,7 +8,8 @@ use lib.Ieee.{Float, le}
 use lib.ListN.{length, length-map}
 use Rattle.softmath.specs.Functions.{decide}
 use Rattle.softmath.specs.Single.{zero32}
-use Rattle.tanner.specs.Checks.{Checks, Word, count, countMasked, Syndrome, syndrome, syndromeMasked}
+use Rattle.tanner.specs.Checks.{Checks, Word, count, Syndrome, syndrome}
+use Rattle.tanner.specs.Masked.{countMasked, syndromeMasked}
 use Rattle.tanner.specs.Flat.{Below}
 use Rattle.tanner.proofs.Count.{bits-low}
 use Rattle.tanner.proofs.First.{low-syndrome}

@@ -9,7 +9,8 @@ use borrow.Author.Tests.{lt-ltb, le-ltb, eq-eqb, ne-eqb}
 use lib.Dec.{eqb, ltb}
 use lib.Ieee.{Float}
 use lib.ListN.{length, take}
-use Rattle.tanner.specs.Checks.{Checks, Word, count, countMasked, Syndrome, syndrome, firstMasked, syndromeMasked}
+use Rattle.tanner.specs.Checks.{Checks, Word, count, Syndrome, syndrome}
+use Rattle.tanner.specs.Masked.{countMasked, firstMasked, syndromeMasked}
 use Rattle.tanner.specs.Found.{firstOf, syndromeOf}
 use Rattle.tanner.specs.Flat.{Below}
 use Rattle.tanner.proofs.First.{both}

@@ -7,7 +7,8 @@ use lib.Ieee.{Float}
 use lib.ListN.{length}
 use Rattle.softmath.specs.CheckNode.{checkStep}
 use Rattle.softmath.specs.declared.DecodeRule.{DecodeRule}
-use Rattle.tanner.specs.Checks.{Word, countMasked}
+use Rattle.tanner.specs.Checks.{Word}
+use Rattle.tanner.specs.Masked.{countMasked}
 use Rattle.tanner.specs.Flat.{Below, joined}
 use Rattle.slots.specs.Layout.{Slotted, slotPlace, padPlaces, scattered}
 use Rattle.slots.proofs.Edges.{slot-injective, slot-inside}

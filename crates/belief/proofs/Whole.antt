@@ -6,7 +6,8 @@ use lib.Ieee.{Float}
 use lib.ListN.{take}
 use Rattle.softmath.specs.Functions.{decide}
 use Rattle.softmath.specs.declared.DecodeRule.{DecodeRule}
-use Rattle.tanner.specs.Checks.{Word, count, Syndrome, syndromeMasked}
+use Rattle.tanner.specs.Checks.{Word, count, Syndrome}
+use Rattle.tanner.specs.Masked.{syndromeMasked}
 use Rattle.tanner.specs.Found.{syndromeOf}
 use Rattle.tanner.specs.declared.Counted.{Counted}
 use Rattle.tanner.specs.declared.FirstCheck.the-variants.{Satisfied}

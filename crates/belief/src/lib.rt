@@ -6,7 +6,7 @@ ghost use lib.Ieee.{Float};
 ghost use lib.ListN.{length, take, replicate};
 ghost use Rattle.softmath.specs.Single.{zero32};
 ghost use Rattle.softmath.specs.Functions.{decide};
-ghost use Rattle.tanner.specs.Checks.{countMasked, syndromeMasked};
+ghost use Rattle.tanner.specs.Masked.{countMasked, syndromeMasked};
 ghost use Rattle.tanner.specs.Found.{syndromeOf};
 ghost use Rattle.passes.specs.Codes.{sizeN, checksBy, room};
 ghost use Rattle.belief.specs.Area.{cleared};

@@ -16,7 +16,8 @@ use Rattle.softmath.specs.CheckNode.{turned, minSum}
 use Rattle.softmath.specs.Others.{lesserOf, turnedBy, othersSum}
 use Rattle.softmath.proofs.ByOthers.{answersFrom, others-shared, same-answers}
 use Rattle.check_node.specs.Cells.{Cell, Fit, more, fresh, leastWith, secondWith, noted, notedAll, pick, answerTo}
-use Rattle.check_node.proofs.Magnitudes.{Mag, infinite, Sized, unknown, known, sized, equal-same, level-same, equal-self, not-self, not-both, below-upper, lower-below, under-infinity, not-negative}
+use Rattle.check_node.proofs.Magnitudes.{Mag, infinite, Sized, unknown, known, sized, equal-same}
+use Rattle.check_node.proofs.Magnitudes.{level-same, equal-self, not-self, not-both, below-upper, lower-below, under-infinity, not-negative}
 
 true-false : {A : Type 0} (b : Bool) → b ≡ true → b ≡ false → A
 true-false b p q =

@@ -4,7 +4,8 @@
 use mathlib.Core.Path.{_≡_}
 use mathlib.Core.List.{List}
 use Prim.Native.Nat.{ℕ}
-use Rattle.tanner.specs.Checks.{Word, count, countBytes, syndromeOfBytes, syndromeMasked}
+use Rattle.tanner.specs.Checks.{Word, count, countBytes, syndromeOfBytes}
+use Rattle.tanner.specs.Masked.{syndromeMasked}
 use Rattle.tanner.specs.Flat.{Below}
 use Rattle.tanner.proofs.Count.{bits-count}
 use Rattle.tanner.proofs.First.{byte-syndrome}

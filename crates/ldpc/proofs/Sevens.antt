@@ -13,7 +13,8 @@ use lib.Bits.{bitXor, bitAnd, xor-zero-r}
 use lib.Dec.{eqb, ltb}
 use lib.ListN.{length, getD, take, drop, set}
 use lib.Seq.{take-take, drop-drop, take-suc, take-suc-set, take-all}
-use Rattle.tanner.specs.Checks.{Checks, xorFrom, nonzero, countMasked, measured, firstBy, firstMasked}
+use Rattle.tanner.specs.Checks.{Checks, xorFrom, nonzero, firstBy}
+use Rattle.tanner.specs.Masked.{countMasked, measured, firstMasked}
 use Rattle.tanner.specs.Flat.{Below}
 use Rattle.tanner.proofs.Steps.{part-below}
 use Rattle.ldpc.specs.Agreement.{each}

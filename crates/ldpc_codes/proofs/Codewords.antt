@@ -7,7 +7,8 @@ use native.Mathlib.Nat.{add-zero, add-suc}
 use native.Mathlib.Omega.{arith}
 use lib.ListN.{length, getD, take, drop, set, length-append, length-drop, take-append-drop, List·getD-append}
 use lib.Seq.{take-at, set-at, getD-at, getD-append-add, length-take-le}
-use Rattle.tanner.specs.Checks.{Word, parity, count, countMasked, lowBits}
+use Rattle.tanner.specs.Checks.{Word, parity, count, lowBits}
+use Rattle.tanner.specs.Masked.{countMasked}
 use Rattle.tanner.specs.Flat.{Below}
 use Rattle.tanner.proofs.Count.{low-length, parity-bit, parity-front, low-count, bits-low}
 use Rattle.tanner.proofs.Below.{below-none, below-cons, below-first, below-rest, below-append, below-left, below-right}

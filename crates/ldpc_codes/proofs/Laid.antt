@@ -11,7 +11,8 @@ use lib.ListN.{length, getD, set, take, drop, length-drop}
 use lib.Seq.{set-at, drop-cons, take-suc, append-snoc, length-take-le}
 use Rattle.refusal.specs.Outcome.{Outcome, judged, kept}
 use Rattle.construction.specs.Codes.{Code, blockLength}
-use Rattle.tanner.specs.Checks.{lowBits, Syndrome, syndromeMasked}
+use Rattle.tanner.specs.Checks.{lowBits, Syndrome}
+use Rattle.tanner.specs.Masked.{syndromeMasked}
 use Rattle.tanner.specs.Flat.{joined, offsets, FlatChecks}
 use Rattle.tanner.proofs.First.{low-syndrome, front-syndrome}
 use Rattle.tanner.proofs.Flat.{flat-checks, all-below}

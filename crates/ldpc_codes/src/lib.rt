@@ -16,7 +16,7 @@ ghost use lib.ListN.{length, drop};
 ghost use Rattle.refusal.specs.Outcome.{judged, kept};
 ghost use Rattle.refusal.specs.Answers.{statusOf};
 ghost use Rattle.construction.specs.Codes.{n512r12, n576r23, n512r34};
-ghost use Rattle.tanner.specs.Checks.{syndromeMasked};
+ghost use Rattle.tanner.specs.Masked.{syndromeMasked};
 ghost use Rattle.tanner.specs.Found.{countingOf};
 ghost use Rattle.staircase.specs.Shape.{stairs};
 ghost use Rattle.stairs.specs.Stairs.{Stairs, filled};

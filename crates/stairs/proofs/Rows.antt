@@ -9,7 +9,8 @@ use native.Mathlib.Omega.{arith}
 use lib.Bits.{bitAnd, bitXor, and-mask, xor-zero-r}
 use lib.ListN.{length, getD, take, drop, set}
 use lib.Seq.{getD-set-same, getD-set-other}
-use Rattle.tanner.specs.Checks.{xorFrom, nonzero, countMasked}
+use Rattle.tanner.specs.Checks.{xorFrom, nonzero}
+use Rattle.tanner.specs.Masked.{countMasked}
 use Rattle.tanner.specs.Flat.{Below}
 use Rattle.tanner.proofs.Below.{below-part, below-less, below-first, below-rest}
 use Rattle.tanner.proofs.Count.{nonzero-bit}

@@ -3,7 +3,8 @@ use mathlib.Core.Path.{_≡_}
 use mathlib.Core.List.{List, [], _∷_}
 use Prim.Native.Nat.{ℕ, zero, suc, _+_, _*_, _<_, _≤_}
 use lib.ListN.{length, getD, set}
-use Rattle.tanner.specs.Checks.{Checks, Word, countMasked}
+use Rattle.tanner.specs.Checks.{Checks, Word}
+use Rattle.tanner.specs.Masked.{countMasked}
 use Rattle.tanner.specs.Flat.{Below}
 
 -- m rows of `width` message positions each, all of them below k, and a word of n bytes that has room for m parity bits after those

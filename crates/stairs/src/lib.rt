@@ -2,7 +2,7 @@
 // The bit before is carried along, so that each byte of the parity is read once.
 ghost use mathlib.Core.Path.{_≡_};
 ghost use lib.ListN.{length};
-ghost use Rattle.tanner.specs.Checks.{countMasked, firstMasked, syndromeMasked};
+ghost use Rattle.tanner.specs.Masked.{countMasked, firstMasked, syndromeMasked};
 ghost use Rattle.tanner.specs.Found.{firstOf, syndromeOf};
 ghost use Rattle.staircase.specs.Shape.{stairs};
 ghost use Rattle.stairs.specs.Stairs.{Stairs, filled};

@@ -6,7 +6,8 @@ use native.Mathlib.Omega.{arith}
 use lib.Bits.{bitAnd, bitXor, and-mask, xor-add-and, xor-lt}
 use lib.ListN.{length, getD, take, length-map, List·getD-map}
 use lib.Seq.{getD-take}
-use Rattle.tanner.specs.Checks.{Word, Checks, parity, count, lowBits, xorFrom, nonzero, countBytes, countMasked}
+use Rattle.tanner.specs.Checks.{Word, Checks, parity, count, lowBits, xorFrom, nonzero, countBytes}
+use Rattle.tanner.specs.Masked.{countMasked}
 use Rattle.tanner.specs.Flat.{Below}
 use Rattle.tanner.proofs.Below.{below-at}
 

@@ -10,7 +10,8 @@ use lib.Dec.{eqb}
 use lib.ListN.{length, getD, take, drop, drop-of-length-le}
 use lib.Seq.{drop-cons, take-all}
 use borrow.Author.Tests.{eq-eqb, ne-eqb}
-use Rattle.tanner.specs.Checks.{Checks, First, check, none, xorFrom, nonzero, countMasked, measured, firstBy}
+use Rattle.tanner.specs.Checks.{Checks, First, check, none, xorFrom, nonzero, firstBy}
+use Rattle.tanner.specs.Masked.{countMasked, measured}
 use Rattle.tanner.specs.Flat.{cut, rowsFrom, Below}
 pub use Rattle.tanner.proofs.Below.{below-part as part-below}
 

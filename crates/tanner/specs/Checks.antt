@@ -3,7 +3,7 @@ use mathlib.Core.Path.{_≡_}
 use mathlib.Core.Bool.{cond}
 use mathlib.Core.List.{List, [], _∷_, map}
 use Prim.Native.Nat.{ℕ, suc, _+_, _%_, _<_}
-use lib.Bits.{bitAnd, bitXor}
+use lib.Bits.{bitXor}
 use lib.Dec.{eqb}
 use lib.ListN.{length, getD}
 
@@ -43,11 +43,6 @@ unfoldable pub countBytes : Checks → List ℕ → ℕ
 countBytes [] bytes = 0
 countBytes (c ∷ cs) bytes = nonzero (xorFrom 0 c bytes) + countBytes cs bytes
 
--- the number of checks whose bytes, XORed whole, have a bit of the mask: what the code counts, for both of the above
-unfoldable pub countMasked : ℕ → Checks → List ℕ → ℕ
-countMasked mask [] bytes = 0
-countMasked mask (c ∷ cs) bytes = nonzero (bitAnd (xorFrom 0 c bytes) mask) + countMasked mask cs bytes
-
 -- ---- the first check that a count includes (change request N8)
 
 -- a check's number, counted from 0, or none
@@ -75,16 +70,6 @@ syndrome cs w = record { count = count cs w; first = firstUnsatisfied cs w }
 -- by whole bytes
 abbrev pub syndromeOfBytes : Checks → List ℕ → Syndrome
 syndromeOfBytes cs bytes = record { count = countBytes cs bytes; first = firstBy (λ r. nonzero (xorFrom 0 r bytes)) 0 cs }
-
--- what the code counts: 1 for a check whose bytes, XORed whole, have a bit of the mask
-abbrev pub measured : ℕ → List ℕ → List ℕ → ℕ
-measured mask bytes r = nonzero (bitAnd (xorFrom 0 r bytes) mask)
-
-abbrev pub firstMasked : ℕ → Checks → List ℕ → First
-firstMasked mask cs bytes = firstBy (measured mask bytes) 0 cs
-
-abbrev pub syndromeMasked : ℕ → Checks → List ℕ → Syndrome
-syndromeMasked mask cs bytes = record { count = countMasked mask cs bytes; first = firstMasked mask cs bytes }
 
 -- What it is to be the first: it is counted, and every check below it is not. None: no check is counted.
 pub data FirstIs (measure : List ℕ → ℕ) (cs : Checks) : First → Type 0 where

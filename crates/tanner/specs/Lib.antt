@@ -1,3 +1,4 @@
 pub mod Checks
+pub mod Masked
 pub mod Flat
 pub mod Found

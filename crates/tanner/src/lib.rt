@@ -2,7 +2,8 @@
 use refusal::Refusal;
 ghost use mathlib.Core.Path.{_≡_};
 ghost use lib.ListN.{length};
-ghost use Rattle.tanner.specs.Checks.{xorFrom, countMasked, firstMasked, syndromeMasked};
+ghost use Rattle.tanner.specs.Checks.{xorFrom};
+ghost use Rattle.tanner.specs.Masked.{countMasked, firstMasked, syndromeMasked};
 ghost use Rattle.tanner.specs.Flat.{Below, FlatChecks, rowsOf};
 ghost use Rattle.tanner.specs.Found.{firstOf, syndromeOf};
 

@@ -1,6 +1,6 @@
 -- `ldpc::count_low` meets its contract: the rows count what the checks count. Assumes nothing.
 use mathlib.Core.Path.{refl, ap, _∙_}
-use Rattle.tanner.specs.Checks.{countMasked}
+use Rattle.tanner.specs.Masked.{countMasked}
 use Rattle.ldpc.specs.Rows.{sevens}
 use Rattle.ldpc.specs.Tables.{nm}
 use Rattle.ldpc.proofs.Sevens.{behind-counted}

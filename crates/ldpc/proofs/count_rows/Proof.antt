@@ -4,7 +4,7 @@ use mathlib.Core.Logic.{⊎-elim}
 use Prim.Native.Nat.{_+_, _-_, _*_, _≤_}
 use native.Mathlib.Omega.{arith}
 use lib.ListN.{drop}
-use Rattle.tanner.specs.Checks.{countMasked}
+use Rattle.tanner.specs.Masked.{countMasked}
 use Rattle.tanner.proofs.Steps.{part-below, count-more, count-same, count-done}
 use Rattle.ldpc.specs.Rows.{sevens}
 use Rattle.ldpc.proofs.Sevens.{rows-more, rows-done, rows-all}

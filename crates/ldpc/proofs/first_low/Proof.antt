@@ -1,7 +1,7 @@
 -- `ldpc::first_low` meets its contract: no check is unsatisfied where the count is 0, and the first row is the first check. Assumes nothing.
 use mathlib.Core.Path.{refl, sym, ap, _∙_}
 use lib.ListN.{length}
-use Rattle.tanner.specs.Checks.{firstMasked}
+use Rattle.tanner.specs.Masked.{firstMasked}
 use Rattle.tanner.proofs.First.{zero-none, masked-adds}
 use Rattle.ldpc.specs.Rows.{sevens}
 use Rattle.ldpc.specs.Tables.{nm}

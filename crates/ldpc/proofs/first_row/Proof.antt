@@ -3,7 +3,8 @@ use mathlib.Core.Path.{_≡_, refl}
 use Prim.Native.Nat.{_+_, _-_, _*_, _≤_}
 use native.Mathlib.Omega.{arith}
 use lib.ListN.{drop}
-use Rattle.tanner.specs.Checks.{measured, firstBy, firstMasked}
+use Rattle.tanner.specs.Checks.{firstBy}
+use Rattle.tanner.specs.Masked.{measured, firstMasked}
 use Rattle.tanner.proofs.Steps.{part-below, first-here, first-later, first-nowhere}
 use Rattle.ldpc.specs.Rows.{sevens}
 use Rattle.ldpc.proofs.Sevens.{rows-more, rows-done, rows-all}

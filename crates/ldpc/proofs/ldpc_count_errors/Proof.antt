@@ -6,7 +6,7 @@ use native.Mathlib.Omega.{arith}
 use borrow.Author.Tests.{eq-eqb, ne-eqb}
 use lib.ListN.{drop}
 use Rattle.refusal.specs.Outcome.{accepted}
-use Rattle.tanner.specs.Checks.{syndromeMasked}
+use Rattle.tanner.specs.Masked.{syndromeMasked}
 use Rattle.tanner.specs.Flat.{Below}
 use Rattle.ldpc.specs.Code174.{checks}
 use Rattle.ldpc.proofs.Counting.{bytes-counted}

@@ -6,7 +6,8 @@ use Prim.Native.Nat.{_+_, _-_, _*_, _≤_}
 use native.Mathlib.Omega.{arith}
 use lib.Bits.{bitXor}
 use lib.ListN.{length, getD}
-use Rattle.tanner.specs.Checks.{xorFrom, countMasked}
+use Rattle.tanner.specs.Checks.{xorFrom}
+use Rattle.tanner.specs.Masked.{countMasked}
 use Rattle.tanner.proofs.Steps.{count-more, count-same, count-done}
 use Rattle.staircase.specs.Shape.{stairRow, stairRows, stairs}
 use Rattle.stairs.specs.Stairs.{bitBefore}

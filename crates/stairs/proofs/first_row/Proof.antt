@@ -5,7 +5,8 @@ use Prim.Native.Nat.{_+_, _-_, _*_, _≤_}
 use native.Mathlib.Omega.{arith}
 use lib.Bits.{bitXor}
 use lib.ListN.{length, getD}
-use Rattle.tanner.specs.Checks.{xorFrom, measured, firstBy, firstMasked}
+use Rattle.tanner.specs.Checks.{xorFrom, firstBy}
+use Rattle.tanner.specs.Masked.{measured, firstMasked}
 use Rattle.tanner.proofs.Steps.{first-here, first-later, first-nowhere}
 use Rattle.staircase.specs.Shape.{stairRow, stairRows, stairs}
 use Rattle.stairs.specs.Stairs.{bitBefore}

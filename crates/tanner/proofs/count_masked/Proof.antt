@@ -4,7 +4,7 @@ use mathlib.Core.Logic.{⊎-elim}
 use Prim.Native.Nat.{_+_, _-_, _≤_, _<_}
 use native.Mathlib.Omega.{arith}
 use lib.ListN.{length, getD}
-use Rattle.tanner.specs.Checks.{countMasked}
+use Rattle.tanner.specs.Masked.{countMasked}
 use Rattle.tanner.specs.Flat.{rowsFrom, rowsOf, Within}
 use Rattle.tanner.proofs.Below.{below-part}
 use Rattle.tanner.proofs.Steps.{rows-more, rows-done, count-more, count-same, count-done}

@@ -3,7 +3,8 @@ use mathlib.Core.Path.{_≡_}
 use Prim.Native.Nat.{_+_, _-_, _≤_, _<_}
 use native.Mathlib.Omega.{arith}
 use lib.ListN.{length, getD}
-use Rattle.tanner.specs.Checks.{measured, firstBy, firstMasked}
+use Rattle.tanner.specs.Checks.{firstBy}
+use Rattle.tanner.specs.Masked.{measured, firstMasked}
 use Rattle.tanner.specs.Flat.{rowsFrom, rowsOf, Within}
 use Rattle.tanner.proofs.Below.{below-part}
 use Rattle.tanner.proofs.Steps.{rows-more, rows-done, first-here, first-later, first-nowhere}
