@@ -50,7 +50,8 @@ module _ (f : List Float → List Float) (keeps : (r : List Float) → length (f
       by : (c : ℕ) → c < suc (length rs)
           → take (length r) (f (take (length r) ms) ++ joined (map f (byCheck rs (drop (length r) ms)))) ≡ f (take (length r) ms)
           → drop (length r) (f (take (length r) ms) ++ joined (map f (byCheck rs (drop (length r) ms)))) ≡ joined (map f (byCheck rs (drop (length r) ms)))
-          → ((i : ℕ) → i < length rs → getD (byCheck rs (joined (map f (byCheck rs (drop (length r) ms))))) i [] ≡ f (getD (byCheck rs (drop (length r) ms)) i []))
+          → ((i : ℕ) → i < length rs
+          → getD (byCheck rs (joined (map f (byCheck rs (drop (length r) ms))))) i [] ≡ f (getD (byCheck rs (drop (length r) ms)) i []))
           → getD (take (length r) (f (take (length r) ms) ++ joined (map f (byCheck rs (drop (length r) ms)))) ∷ byCheck rs (drop (length r) (f (take
           (length r) ms) ++ joined (map f (byCheck rs (drop (length r) ms)))))) c [] ≡ f (getD (take (length r) ms ∷ byCheck rs (drop
           (length r) ms)) c [])
@@ -59,7 +60,8 @@ module _ (f : List Float → List Float) (keeps : (r : List Float) → length (f
 
 -- ---- down a column
 
-module _ (dec : Decode) (m d : ℕ) (s : Slotted (dec .checks) m d) (w v ms : List Float) (h : Holds (dec .checks) m d w ms) (p : Padded (dec .checks) m d (padOf (dec .rule)) w)
+module _ (dec : Decode) (m d : ℕ) (s : Slotted (dec .checks) m d) (w v ms : List Float) (h : Holds (dec .checks) m d w ms)
+    (p : Padded (dec .checks) m d (padOf (dec .rule)) w)
     (wide : length v ≡ length w) (steps : (c : ℕ) → c < m → column m d c v ≡ checkStep (dec .rule) (column m d c w)) where
   module _ (c : ℕ) (l : c < length (dec .checks)) where
     -- the check's entries and its messages
@@ -87,7 +89,8 @@ module _ (dec : Decode) (m d : ℕ) (s : Slotted (dec .checks) m d) (w v ms : Li
     -- one that lacks its last: the pad is the last of its column
     with-pad : d ≡ suc k → getD w (k * m + c) nan ≡ padOf (dec .rule) → column m d c w ≡ own ++ (padOf (dec .rule) ∷ [])
     with-pad e q =
-        let last : column m d c w ≡ column m k c w ++ (padOf (dec .rule) ∷ []) = ap (λ (n : ℕ). column m n c w) e ∙ column-last m k c w ∙ ap (λ (x : Float). column m k c w ++ (x ∷ [])) q in
+        let last : column m d c w ≡ column m k c w ++ (padOf (dec .rule) ∷ []) = ap (λ (n : ℕ). column m n c w) e ∙ column-last m k c w
+        ∙ ap (λ (x : Float). column m k c w ++ (x ∷ [])) q in
         let front : column m k c w ≡ own =
         sym (take-at (column m k c w) (padOf (dec .rule) ∷ []) k (column-length m k c w)) ∙ ap (take k) (sym last) ∙ h .entries c l
         in

@@ -58,7 +58,8 @@ answers-placed place w ans (e ∷ es) h =
     rw (a, b)
 
 -- places that differ where the edges do are distinct
-distinct-placed : (place : ℕ → ℕ) (n : ℕ) → ((e f : ℕ) → e < n → f < n → place e ≡ place f → e ≡ f) → {es : List ℕ} → ((k : ℕ) → k < length es → getD es k 0 < n)
+distinct-placed : (place : ℕ → ℕ) (n : ℕ) → ((e f : ℕ) → e < n → f < n → place e ≡ place f → e ≡ f) → {es : List ℕ}
+    → ((k : ℕ) → k < length es → getD es k 0 < n)
     → Distinct es → Distinct (map place es)
 distinct-placed place n apart low none = none
 distinct-placed place n apart low (more {e = e} {es = es} a d) =
@@ -75,7 +76,8 @@ module _ (d : Decode) (ans : List Float) where
   decided-length p [] = refl
   decided-length p (l ∷ ls) = ap suc (decided-length (suc p) ls)
 
-  decided-at : (p : ℕ) (ls : List Float) (i : ℕ) → i < length ls → getD (decidedFrom d ans p ls) i 0 ≡ decide (decisionSum (getD ls i nan) (heard d ans (p + i)))
+  decided-at : (p : ℕ) (ls : List Float) (i : ℕ) → i < length ls
+      → getD (decidedFrom d ans p ls) i 0 ≡ decide (decisionSum (getD ls i nan) (heard d ans (p + i)))
   unfolding decidedFrom
   decided-at p [] i h = absurd (omega arith)
   decided-at p (l ∷ ls) zero h = rw add-zero refl
@@ -178,7 +180,8 @@ module _ (d : Decode) (ans w₀ : List Float) (word₀ : List ℕ) (place : ℕ 
     new-by e l m (yes y) = elsewhere e l (λ q. omega arith) ∙ a .new e l y
     new-by e l m (no n) = here e l (omega arith)
 
-    done-by : (i : ℕ) → i < suc b → Dec (i < b) → getD (bitDone (d .kind) (channel d b) edges b s .word) i 0 ≡ decide (decisionSum (channel d i) (heard d ans i))
+    done-by : (i : ℕ) → i < suc b → Dec (i < b)
+        → getD (bitDone (d .kind) (channel d b) edges b s .word) i 0 ≡ decide (decisionSum (channel d i) (heard d ans i))
     unfolding bitDone
     done-by i l (yes y) = getD-set-other (s .word) b i _ 0 (λ q. omega arith) ∙ a .done i y
     done-by i l (no n) =

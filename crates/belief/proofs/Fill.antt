@@ -35,5 +35,6 @@ module _ {A : Type 0} (w front : List A) (n m : ℕ) (size : length front ≡ le
       let f : n + (m - n) ≡ m = omega arith in
       ap (λ (k : ℕ). drop k (front ++ drop n w)) e ∙ drop-append-add front (drop n w) (m - n) ∙ drop-drop (m - n) n w ∙ ap (λ (k : ℕ). drop k w) f
 
-  pub lent-cleared : (z : A) (part : List A) → part ≡ replicate (length (take m (front ++ drop n w))) z → part ++ drop m (front ++ drop n w) ≡ replicate m z ++ drop m w
+  pub lent-cleared : (z : A) (part : List A) → part ≡ replicate (length (take m (front ++ drop n w))) z
+      → part ++ drop m (front ++ drop n w) ≡ replicate m z ++ drop m w
   lent-cleared z part e = rw (e, length-take-le m (front ++ drop n w) lent-length, lent-rest)

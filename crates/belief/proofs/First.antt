@@ -72,14 +72,20 @@ module _ (dec : Decode) (m d : ℕ) (s : Slotted (dec .checks) m d) (w : List Fl
         let ranked : length (places b 0 (take e flat)) < length (places b 0 flat) = rw q at (rank-inside flat e l) in
         let at : getD (places b 0 flat) (length (places b 0 (take e flat))) 0 ≡ e = rw q at (rank-place flat e l) in
         let inside : length (places b 0 (take e flat)) < length own = omega (arith, length-map (places b 0 flat) (slotPlace (dec .checks) m)) in
-        record { index = length (places b 0 (take e flat)); inside = inside; there = own-place (length (places b 0 (take e flat))) inside ∙ ap (slotPlace (dec .checks) m) at }
+        record {
+          index = length (places b 0 (take e flat));
+          inside = inside;
+          there = own-place (length (places b 0 (take e flat))) inside ∙ ap (slotPlace (dec .checks) m) at;
+        }
 
     other-apart : (e : ℕ) → e < length flat → getD flat e 0 ≢ b → (k : ℕ) → k < length own → getD own k 0 ≢ place e
     other-apart e l n k h q =
-        let same : getD (places b 0 flat) k 0 ≡ e = slot-injective (dec .checks) m d s (getD (places b 0 flat) k 0) e (own-low k h) l (sym (own-place k h) ∙ q) in
+        let same : getD (places b 0 flat) k 0 ≡ e =
+        slot-injective (dec .checks) m d s (getD (places b 0 flat) k 0) e (own-low k h) l (sym (own-place k h) ∙ q) in
         n (rw same at (own-holds k h))
 
-    new-by : (e : ℕ) → e < length flat → getD flat e 0 < suc b → (t : Bool) → eqb (getD flat e 0) b ≡ t → getD (scattered (channel dec b) own v) (place e) nan ≡ channel dec (getD flat e 0)
+    new-by : (e : ℕ) → e < length flat → getD flat e 0 < suc b → (t : Bool) → eqb (getD flat e 0) b ≡ t
+        → getD (scattered (channel dec b) own v) (place e) nan ≡ channel dec (getD flat e 0)
     new-by e l h true t =
         let q = eqb-true (getD flat e 0) b t in
         let low : place e < length v = omega (arith, a .wide, slot-inside (dec .checks) m d s e l) in
@@ -97,7 +103,8 @@ module _ (dec : Decode) (m d : ℕ) (s : Slotted (dec .checks) m d) (w : List Fl
     }
 
   -- the turns of n positions
-  module _ (step : ℕ → List Float → List Float) (n : ℕ) (steps : (b : ℕ) (v : List Float) → b < n → step b v ≡ scattered (channel dec b) (slotEdges (dec .checks) m b) v)
+  module _ (step : ℕ → List Float → List Float) (n : ℕ) (steps : (b : ℕ) (v : List Float) → b < n
+      → step b v ≡ scattered (channel dec b) (slotEdges (dec .checks) m b) v)
       (low : Below n (joined (dec .checks))) where
     first-turns : (b : ℕ) → b ≤ n → First b (turns step b w)
     unfolding turns

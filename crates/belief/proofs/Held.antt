@@ -20,7 +20,8 @@ messages-at : (cs : Checks) (ms : List Float) (c : ℕ) → c < length cs → ge
 unfolding byCheck joined
 messages-at [] ms c h = absurd (omega arith)
 messages-at (r ∷ rs) ms zero h = refl
-messages-at (r ∷ rs) ms (suc c) h = rw (length-append r (joined (take c rs)), ← drop-drop (start rs c) (length r) ms) (messages-at rs (drop (length r) ms) c (omega arith))
+messages-at (r ∷ rs) ms (suc c) h = rw (length-append r (joined (take c rs)), ← drop-drop (start rs c) (length r) ms)
+    (messages-at rs (drop (length r) ms) c (omega arith))
 
 module _ (cs : Checks) (m d : ℕ) (s : Slotted cs m d) (w ms : List Float) where
   -- each edge's message lies at its place
@@ -41,7 +42,8 @@ module _ (cs : Checks) (m d : ℕ) (s : Slotted cs m d) (w ms : List Float) wher
       ∙ ap (λ (x : ℕ). getD ms x nan) (sym (a .whole))
 
   -- the other way
-  module _ (room : d * m ≤ length w) (size : length ms ≡ length (joined cs)) (at : (e : ℕ) → e < length (joined cs) → getD w (slotPlace cs m e) nan ≡ getD ms e nan) where
+  module _ (room : d * m ≤ length w) (size : length ms ≡ length (joined cs)) (at : (e : ℕ) → e < length (joined cs)
+      → getD w (slotPlace cs m e) nan ≡ getD ms e nan) where
     module _ (c : ℕ) (l : c < length cs) where
       column-size : length (take (length (row cs c)) (column m d c w)) ≡ length (row cs c)
       column-size =
@@ -51,7 +53,8 @@ module _ (cs : Checks) (m d : ℕ) (s : Slotted cs m d) (w ms : List Float) wher
       message-size : length (take (length (row cs c)) (drop (start cs c) ms)) ≡ length (row cs c)
       message-size = length-take-le (length (row cs c)) (drop (start cs c) ms) (simp length-drop (omega (arith, entry-inside cs c l)))
 
-      entry-same : (j : ℕ) → j < length (row cs c) → getD (take (length (row cs c)) (column m d c w)) j nan ≡ getD (take (length (row cs c)) (drop (start cs c) ms)) j nan
+      entry-same : (j : ℕ) → j < length (row cs c)
+          → getD (take (length (row cs c)) (column m d c w)) j nan ≡ getD (take (length (row cs c)) (drop (start cs c) ms)) j nan
       entry-same j h =
           let most : length (row cs c) ≤ d = s .most c (omega (arith, s .count)) in
           let known : start cs c + j < length (joined cs) = omega (arith, entry-inside cs c l) in

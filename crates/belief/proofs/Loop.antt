@@ -16,7 +16,8 @@ use Rattle.tanner.specs.Flat.{Below}
 use Rattle.tanner.proofs.First.{both}
 use Rattle.tanner.specs.declared.Counted.{Counted}
 use Rattle.tanner.specs.declared.FirstCheck.{FirstCheck}
-use Rattle.belief.specs.Rounds.{Decode, answers, sent, firstMessages, initialWord, wordsFrom, roundWords, roundsRun, unlessDone, better, chosenFrom, chosen, chosenCount, chosenFirst, chosenBits}
+use Rattle.belief.specs.Rounds.{Decode, answers, sent, firstMessages, initialWord, wordsFrom, roundWords}
+use Rattle.belief.specs.Rounds.{roundsRun, unlessDone, better, chosenFrom, chosen, chosenCount, chosenFirst, chosenBits}
 use Rattle.belief.specs.Chosen.{Told, Chose}
 use Rattle.belief.specs.Run.{Holds, RoundDone, Kept, Ran, countedOf}
 use Rattle.belief.specs.declared.Decoded.{Decoded}
@@ -45,10 +46,12 @@ module _ (d : Decode) (m g : ℕ) (ms next : List Float) (w : Word) (found : ℕ
   pub round-masked : found ≡ countMasked 1 (d .checks) w
   round-masked = r .counted ∙ sym (ap (λ (s : Syndrome). s .count) masked)
 
-  pub round-found : (lowest : FirstCheck) → firstOf lowest ≡ firstMasked 1 (d .checks) w → syndromeOf (record { count = found; first = lowest }) ≡ syndrome (d .checks) w
+  pub round-found : (lowest : FirstCheck) → firstOf lowest ≡ firstMasked 1 (d .checks) w
+      → syndromeOf (record { count = found; first = lowest }) ≡ syndrome (d .checks) w
   round-found lowest f = ap₂ both round-masked f ∙ masked
 
-module _ (cs : Checks) (k : ℕ) (word w : Word) (bits bits' : List ℕ) (kept kept' : Counted) (found : ℕ) (h : Kept cs k word bits kept) (c : found ≡ count cs w) where
+module _ (cs : Checks) (k : ℕ) (word w : Word) (bits bits' : List ℕ) (kept kept' : Counted) (found : ℕ) (h : Kept cs k word bits kept)
+    (c : found ≡ count cs w) where
   pub kept-better : found < kept .count → bits' ≡ take k w → syndromeOf kept' ≡ syndrome cs w → Kept cs k (better cs word w) bits' kept'
   kept-better l e f =
       let t : ltb (count cs w) (count cs word) ≡ true = lt-ltb (count cs w) (count cs word) (omega (arith, count-of cs k word bits kept h)) in
@@ -62,7 +65,8 @@ module _ (cs : Checks) (k : ℕ) (word w : Word) (bits bits' : List ℕ) (kept k
 -- ---- a turn
 
 module _ (d : Decode) (m g k left : ℕ) (work next : List Float) (w : Word) (bits bits' : List ℕ) (kept kept' : Counted) (found done : ℕ) (goal : Word) (all : ℕ)
-    (s : Running d m g k (suc left) work bits kept done goal all) (r : RoundDone d m g (s .ms) next w found) (b : Kept (d .checks) k (better (d .checks) (s .word) w) bits' kept') where
+    (s : Running d m g k (suc left) work bits kept done goal all) (r : RoundDone d m g (s .ms) next w found)
+    (b : Kept (d .checks) k (better (d .checks) (s .word) w) bits' kept') where
   -- the round's word is next
   abbrev after : List Float
   after = sent d (answers d (s .ms))
@@ -104,7 +108,8 @@ abbrev tell : Syndrome → ℕ → Told
 tell s n = record { count = s .count; rounds = n; first = s .first }
 
 -- what is kept of the chosen word after these rounds is what the decode tells
-chose : (d : Decode) (k limit : ℕ) (bits : List ℕ) (r : Decoded) → Kept (d .checks) k (chosen d limit) bits (countedOf r) → r .rounds ≡ roundsRun d limit → Chose d limit k r bits
+chose : (d : Decode) (k limit : ℕ) (bits : List ℕ) (r : Decoded) → Kept (d .checks) k (chosen d limit) bits (countedOf r) → r .rounds ≡ roundsRun d limit
+    → Chose d limit k r bits
 unfolding chosenCount chosenFirst chosenBits
 chose d k limit bits r h n = record { tells = ap₂ tell (h .counted) n; front = h .front }
 
@@ -117,7 +122,8 @@ module _ (d : Decode) (k limit : ℕ) (bits : List ℕ) (r : Decoded) where
       in
       chose d k limit bits r (rw t h) (rw t n)
 
-  pub some-run : (before : ℕ) → (before ≡ 0 → ⊥) → before ≡ count (d .checks) (initialWord d) → Ran d k limit (initialWord d) (firstMessages d) bits r → Chose d limit k r bits
+  pub some-run : (before : ℕ) → (before ≡ 0 → ⊥) → before ≡ count (d .checks) (initialWord d) → Ran d k limit (initialWord d) (firstMessages d) bits r
+      → Chose d limit k r bits
   unfolding chosen roundWords roundsRun
   some-run before n e h =
       let t : eqb (count (d .checks) (initialWord d)) 0 ≡ false = ne-eqb (count (d .checks) (initialWord d)) 0 (λ z. n (e ∙ z)) in

@@ -25,7 +25,8 @@ module _ (cs : Checks) (limit : ℕ) (w : Word) (ws : List Word) where
   one-on e (reached j h z before) = reached (suc j) (omega arith) z (none-on j e before)
   one-on e (passed all) = passed (none-on limit e all)
 
-  stopped-by : (t : Bool) → eqb (count cs w) 0 ≡ t → StoppedAt cs limit ws (length ws) → StoppedAt cs (suc limit) (w ∷ cond t [] ws) (suc (length (cond t [] ws)))
+  stopped-by : (t : Bool) → eqb (count cs w) 0 ≡ t → StoppedAt cs limit ws (length ws)
+      → StoppedAt cs (suc limit) (w ∷ cond t [] ws) (suc (length (cond t [] ws)))
   stopped-by true e s = reached 0 (omega arith) (eqb-true (count cs w) 0 e) (λ i h z. omega arith)
   stopped-by false e s = one-on (eqb-false (count cs w) 0 e) s
 

@@ -102,7 +102,8 @@ module _ (m d : ℕ) (w : List Float) (kept₀ : ℕ → Cell) where
         cells = λ c h.
             let b : c < length (take (a + m - a) (drop a w)) = rw (part-length w a m r) h in
             let one : kept' c ≡ noted (kept c) (getD w (a + c) nan) = slot .cells c b ∙ ap (noted (kept c)) (part-at w a m r c h) in
-            let old : notedAll (kept c) (getD w (a + c) nan ∷ columnFrom m p (a + m + c) w) ≡ notedAll (kept₀ c) (columnFrom m d c w) = rw (e, column-more m w a p c) at (before .cells c h) in
+            let old : notedAll (kept c) (getD w (a + c) nan ∷ columnFrom m p (a + m + c) w) ≡ notedAll (kept₀ c) (columnFrom m d c w) =
+            rw (e, column-more m w a p c) at (before .cells c h) in
             rw one old;
         fit = λ c h f.
             let b : c < length (take (a + m - a) (drop a w)) = rw (part-length w a m r) h in
@@ -123,7 +124,8 @@ pub record AnsweredFrom (scale : Float) (m d : ℕ) (kept : ℕ → Cell) (w₀ 
       → ((c : ℕ) → c < m → columnFrom m n (a + c) w' ≡ map (answerTo scale (kept c)) (columnFrom m n (a + c) w))
       → (c : ℕ) → c < m → columnFrom m d c w' ≡ map (answerTo scale (kept c)) (columnFrom m d c w₀)
 
-pub answered-length : (scale : Float) (m : ℕ) (kept : ℕ → Cell) (a : ℕ) (w part : List Float) → a + m ≤ length w → Answered scale kept (take (a + m - a) (drop a w)) part
+pub answered-length : (scale : Float) (m : ℕ) (kept : ℕ → Cell) (a : ℕ) (w part : List Float) → a + m ≤ length w
+    → Answered scale kept (take (a + m - a) (drop a w)) part
     → length (take a w ++ (part ++ drop (a + m - a) (drop a w))) ≡ length w
 answered-length scale m kept a w part r answered = replaced-length w a m r part (answered .long ∙ part-length w a m r)
 
@@ -156,7 +158,8 @@ module _ (scale : Float) (m d : ℕ) (kept : ℕ → Cell) (w₀ : List Float) w
 
 -- ---- the whole: nothing seen, every slot seen, every slot answered
 
-pub whole : (scale : Float) (m d : ℕ) (kept₀ kept : ℕ → Cell) (w w' : List Float) → ((c : ℕ) → c < m → kept₀ c ≡ fresh) → NotedColumns m d w kept₀ kept → AnsweredColumns scale m d kept w w'
+pub whole : (scale : Float) (m d : ℕ) (kept₀ kept : ℕ → Cell) (w w' : List Float) → ((c : ℕ) → c < m → kept₀ c ≡ fresh) → NotedColumns m d w kept₀ kept
+    → AnsweredColumns scale m d kept w w'
     → (c : ℕ) → c < m → columnFrom m d c w' ≡ minSum scale (columnFrom m d c w)
 whole scale m d kept₀ kept w w' start seen answered c h =
     let cell : kept c ≡ notedAll fresh (columnFrom m d c w) = seen .cells c h ∙ ap (λ (t : Cell). notedAll t (columnFrom m d c w)) (start c h) in

@@ -47,18 +47,21 @@ module _ (n c : ℕ) (w : List Float) (hc : c < n) (fits : n + n + n ≤ length 
 
   at-least : getD stored c nan ≡ x
   at-least =
-      getD-set-other (set (set w (n + c) y) c x) (n + n + c) c z nan (λ q. omega (arith, q)) ∙ getD-set-same (set w (n + c) y) c x nan (simp length-set (omega arith))
+      getD-set-other (set (set w (n + c) y) c x) (n + n + c) c z nan (λ q. omega (arith, q))
+      ∙ getD-set-same (set w (n + c) y) c x nan (simp length-set (omega arith))
 
   at-second : getD stored (n + c) nan ≡ y
   at-second =
-      getD-set-other (set (set w (n + c) y) c x) (n + n + c) (n + c) z nan (λ q. omega (arith, q)) ∙ getD-set-other (set w (n + c) y) c (n + c) x nan (λ q. omega (arith, q))
+      getD-set-other (set (set w (n + c) y) c x) (n + n + c) (n + c) z nan (λ q. omega (arith, q))
+      ∙ getD-set-other (set w (n + c) y) c (n + c) x nan (λ q. omega (arith, q))
       ∙ getD-set-same w (n + c) y nan (omega arith)
 
   at-sign : getD stored (n + n + c) nan ≡ z
   at-sign = getD-set-same (set (set w (n + c) y) c x) (n + n + c) z nan (simp length-set (omega arith))
 
   stored-other : (k : ℕ) → (k ≡ c → ⊥) → (k ≡ n + c → ⊥) → (k ≡ n + n + c → ⊥) → getD stored k nan ≡ getD w k nan
-  stored-other k p q r = getD-set-other (set (set w (n + c) y) c x) (n + n + c) k z nan r ∙ getD-set-other (set w (n + c) y) c k x nan p ∙ getD-set-other w (n + c) k y nan q
+  stored-other k p q r = getD-set-other (set (set w (n + c) y) c x) (n + n + c) k z nan r ∙ getD-set-other (set w (n + c) y) c k x nan p
+      ∙ getD-set-other w (n + c) k y nan q
 
   in-same : _≡_ {A = Cell} (cellIn n stored c) (record { least = x; second = y; sign = z })
   unfolding cellIn
@@ -97,7 +100,8 @@ pub record AnsweredTo (scale : Float) (kept : ℕ → Cell) (slot₀ : List Floa
   pub done : (k : ℕ) → k < c → getD slot k nan ≡ answerTo scale (kept k) (getD slot₀ k nan)
   pub left : (k : ℕ) → c ≤ k → getD slot k nan ≡ getD slot₀ k nan
 
-answer-from : (scale : Float) (t : Cell) (v a h k x o inf1 : Float) → inf1 ≡ inf false → a ≡ magnitudeOf v → h ≡ turned v (t .sign) → k ≡ cond (eq a (t .least)) inf1 zero32
+answer-from : (scale : Float) (t : Cell) (v a h k x o inf1 : Float) → inf1 ≡ inf false → a ≡ magnitudeOf v → h ≡ turned v (t .sign)
+    → k ≡ cond (eq a (t .least)) inf1 zero32
     → x ≡ cond (lt (t .second) k) (t .second) k → o ≡ cond (lt (t .least) x) x (t .least) → (scale ⊗ h) ⊗ o ≡ answerTo scale t v
 unfolding answerTo
 answer-from scale t v a h k x o inf1 ei ea eh ek ex eo = rw (eo, ex, ek, eh, ea, ei) refl
@@ -110,14 +114,16 @@ module _ (scale : Float) (kept : ℕ → Cell) (slot₀ : List Float) where
   answer-more c slot inf1 a h k x o hc ei ea eh ek ex eo r =
       record {
         done = below-more _ c (λ i b. getD-set-other slot c i _ nan (λ q. omega (arith, q, b)) ∙ r .done i b)
-            (getD-set-same slot c _ nan hc ∙ answer-from scale (kept c) (getD slot c nan) a h k x o inf1 ei ea eh ek ex eo ∙ ap (answerTo scale (kept c)) (r .left c (omega arith)));
+            (getD-set-same slot c _ nan hc ∙ answer-from scale (kept c) (getD slot c nan) a h k x o inf1 ei ea eh ek ex eo
+            ∙ ap (answerTo scale (kept c)) (r .left c (omega arith)));
         left = λ i b. getD-set-other slot c i _ nan (λ q. omega (arith, q, b)) ∙ r .left i (omega (arith, b));
       }
 
   pub answer-none : AnsweredTo scale kept slot₀ 0 slot₀
   answer-none = record { done = λ k b. absurd (omega (arith, b)); left = λ k b. refl }
 
-  pub answer-done : (c : ℕ) (slot : List Float) → length slot₀ ≤ c → length slot ≡ length slot₀ → AnsweredTo scale kept slot₀ c slot → Answered scale kept slot₀ slot
+  pub answer-done : (c : ℕ) (slot : List Float) → length slot₀ ≤ c → length slot ≡ length slot₀ → AnsweredTo scale kept slot₀ c slot
+      → Answered scale kept slot₀ slot
   answer-done c slot h e r = record { long = e; answers = λ i b. r .done i (omega (arith, b, h)) }
 
 -- ---- one scratch part cleared
@@ -129,7 +135,10 @@ pub fresh-more : (n c : ℕ) (w : List Float) (x y z : Float) → c < n → 3 * 
     → FreshTo n (c + 1) (set (set (set w (n + c) y) c x) (n + n + c) z)
 fresh-more n c w x y z hc room ex ey ez r =
     let fits : n + n + n ≤ length w = omega arith in
-    record { done = below-more _ c (λ i b. in-other n c w hc fits x y z i (omega arith) (λ q. omega (arith, q, b)) ∙ r .done i b) (in-same n c w hc fits x y z ∙ rw (ex, ey, ez) refl) }
+    record {
+      done = below-more _ c (λ i b. in-other n c w hc fits x y z i (omega arith) (λ q. omega (arith, q, b)) ∙ r .done i b)
+          (in-same n c w hc fits x y z ∙ rw (ex, ey, ez) refl);
+    }
 
 pub fresh-none : (n : ℕ) (w : List Float) → FreshTo n 0 w
 fresh-none n w = record { done = λ k b. absurd (omega (arith, b)) }

@@ -63,7 +63,8 @@ module _ (a l s : Float) (ml : Mag l) (ms : Mag s) where
     later-known true y z true ma qx qy qz qn = true-false (lt b l) (rw (equal-same b a mb ma qn) qx) passed
     later-known true y true false ma qx qy qz qn = rw (pick-own l s ml ms, either-below (lt l s) qx ma) (pick-other a l ma ml)
     later-known true y false false ma qx qy qz qn = rw (pick-other l s ml ms, qx) (pick-other a l ma ml)
-    later-known false true true true ma qx qy qz qn = rw (pick-own l s ml ms, pick-own l a ml ma, lower-below l a s ml ma ms qx qy, qy) (tie (lt l a) ma refl qx)
+    later-known false true true true ma qx qy qz qn = rw (pick-own l s ml ms, pick-own l a ml ma, lower-below l a s ml ma ms qx qy, qy)
+        (tie (lt l a) ma refl qx)
     later-known false true false false ma qx qy qz qn = rw (pick-other l s ml ms, pick-other l a ml ma, qx) refl
     later-known false false true true ma qx qy qz qn = rw (pick-own l s ml ms, either-not (lt l s) qx qy) refl
     later-known false false false false ma qx qy qz qn = rw (pick-other l s ml ms, qx) refl
@@ -100,7 +101,8 @@ later-picked : (a b l s : Float) → Sized a → Sized b → Mag l → Mag s →
 unfolding lt eq
 later-picked _ b l s unknown zb ml ms order passed = refl
 later-picked a _ l s (known ma) unknown ml ms order passed =
-    pick-other (leastWith a l) (secondWith a l s) (least-mag a l (known ma) ml) (second-mag a l s (known ma) ml ms) ∙ ap (leastWith a) (sym (pick-other l s ml ms))
+    pick-other (leastWith a l) (secondWith a l s) (least-mag a l (known ma) ml) (second-mag a l s (known ma) ml ms)
+    ∙ ap (leastWith a) (sym (pick-other l s ml ms))
 later-picked a b l s (known ma) (known mb) ml ms order passed =
     later-known a l s ml ms b mb order passed (lt a l) (lt a s) (eq b l) (eq b (leastWith a l)) ma refl refl refl refl
 
@@ -147,7 +149,8 @@ module _ (t : Cell) (v : Float) (fit : T (fits binary32 v)) (k : Kept t) where
 abbrev pickAt : Float → Cell → Float
 pickAt b t = pick (eq b (t .least)) (t .least) (t .second)
 
-later-all : (vs : List Float) (t : Cell) (b : Float) → Fit vs → Kept t → Sized b → lt b (t .least) ≡ false → pickAt b (notedAll t vs) ≡ foldFrom lesserOf (pickAt b t) vs
+later-all : (vs : List Float) (t : Cell) (b : Float) → Fit vs → Kept t → Sized b → lt b (t .least) ≡ false
+    → pickAt b (notedAll t vs) ≡ foldFrom lesserOf (pickAt b t) vs
 unfolding notedAll foldFrom noted
 later-all [] t b f k zb passed = refl
 later-all (v ∷ vs) t b (more fit f) k zb passed =

@@ -50,7 +50,8 @@ carried-pad s (x ∷ xs) h = rw (product-pad s xs h, carried-pad (s ⊗ x) xs (m
 pub products-pad : (ts : List Float) → take (length ts) (atEach product (ts ++ (one32 ∷ []))) ≡ atEach product ts
 unfolding foldFrom
 products-pad ts =
-    ap (take (length ts)) (prefix-shared _⊗_ one32 [] (ts ++ (one32 ∷ []))) ∙ carried-pad one32 ts (ofBits-fits binary32 0x3f800000) ∙ sym (prefix-shared _⊗_ one32 [] ts)
+    ap (take (length ts)) (prefix-shared _⊗_ one32 [] (ts ++ (one32 ∷ []))) ∙ carried-pad one32 ts (ofBits-fits binary32 0x3f800000)
+    ∙ sym (prefix-shared _⊗_ one32 [] ts)
 
 -- ---- min-sum
 
@@ -89,11 +90,13 @@ take-map h (suc n) [] = refl
 take-map h (suc n) (x ∷ xs) = ap (λ (zs : List Float). h x ∷ zs) (take-map h n xs)
 
 -- the products of the tanhs, where the pad's is 1.0
-tanhs-pad : (h : Float → Float) (pad : Float) → h pad ≡ one32 → (ms : List Float) → take (length ms) (atEach product (map h (ms ++ (pad ∷ [])))) ≡ atEach product (map h ms)
+tanhs-pad : (h : Float → Float) (pad : Float) → h pad ≡ one32 → (ms : List Float)
+    → take (length ms) (atEach product (map h (ms ++ (pad ∷ [])))) ≡ atEach product (map h ms)
 tanhs-pad h pad e ms = rw (map-append h ms (pad ∷ []), e, ← length-map ms h) (products-pad (map h ms))
 
 -- what the checks take together, after each message by itself
-pub middle-pad : (rule : DecodeRule) (ms : List Float) → take (length ms) (middle rule (map (before rule) (ms ++ (padOf rule ∷ [])))) ≡ middle rule (map (before rule) ms)
+pub middle-pad : (rule : DecodeRule) (ms : List Float)
+    → take (length ms) (middle rule (map (before rule) (ms ++ (padOf rule ∷ [])))) ≡ middle rule (map (before rule) ms)
 unfolding middle before padOf
 middle-pad SumProduct ms = tanhs-pad halfTanh (inf false) tanh-pad ms
 middle-pad MinSum ms = rw (map-same (ms ++ (inf false ∷ [])), map-same ms) (min-sum-pad one32 ms)

@@ -50,11 +50,16 @@ unfolding timesSlots
 slots-length m zero out w e h = e
 slots-length m (suc d) out w e h = slots-length m d (times out (take m w)) (drop m w) (next-length m d out w e h) (next-long m d out w e h)
 
-slots-at : (m d : ℕ) (out w : List Float) (c : ℕ) → length out ≡ m → d * m ≤ length w → c < m → getD (timesSlots m d out w) c nan ≡ foldFrom _⊗_ (getD out c nan) (columnFrom m d c w)
+slots-at : (m d : ℕ) (out w : List Float) (c : ℕ) → length out ≡ m → d * m ≤ length w → c < m
+    → getD (timesSlots m d out w) c nan ≡ foldFrom _⊗_ (getD out c nan) (columnFrom m d c w)
 unfolding timesSlots foldFrom columnFrom
 slots-at m zero out w c e h k = refl
 slots-at m (suc d) out w c e h k =
-    rw (slots-at m d (times out (take m w)) (drop m w) c (next-length m d out w e h) (next-long m d out w e h) k, next-at m d out w e h c k, column-drop m d c m w)
+    rw (
+      slots-at m d (times out (take m w)) (drop m w) c (next-length m d out w e h) (next-long m d out w e h) k,
+      next-at m d out w e h c k,
+      column-drop m d c m w,
+    )
 
 products-at : (m d : ℕ) (carried w : List Float) (c : ℕ) → length carried ≡ m → d * m ≤ length w → c < m
     → columnFrom m d c (slotProducts m d carried w) ≡ carriedFrom _⊗_ (getD carried c nan) (columnFrom m d c w)
@@ -77,7 +82,8 @@ products-at m (suc d) carried w c e h k =
     )
 
 -- the law
-pub products-column : (m d : ℕ) (w : List Float) (c : ℕ) → d * m ≤ length w → c < m → column m d c (slotProducts m d (ones m) w) ≡ atEach product (column m d c w)
+pub products-column : (m d : ℕ) (w : List Float) (c : ℕ) → d * m ≤ length w → c < m
+    → column m d c (slotProducts m d (ones m) w) ≡ atEach product (column m d c w)
 unfolding foldFrom
 products-column m d w c h k =
     products-at m d (ones m) w c (length-replicate m one32) h k
@@ -94,4 +100,5 @@ products-rest m (suc d) carried w e h =
     let n : length p ≡ m = slots-length m d carried (drop m w) e long in
     let q = slotProducts m d (times carried (take m w)) (drop m w) in
     let split : suc d * m ≡ m + d * m = omega (arith, suc-mul d m) in
-    rw (split, ← drop-drop (d * m) m (p ++ q), ← drop-drop (d * m) m w, drop-at p q m n) (products-rest m d (times carried (take m w)) (drop m w) (next-length m d carried w e h) long)
+    rw (split, ← drop-drop (d * m) m (p ++ q), ← drop-drop (d * m) m w, drop-at p q m n)
+    (products-rest m d (times carried (take m w)) (drop m w) (next-length m d carried w e h) long)

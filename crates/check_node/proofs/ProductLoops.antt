@@ -49,7 +49,8 @@ copy-done l s r n c es el t e =
     let k : length s ≤ c = omega arith in
     simp (take-all, drop-of-length-le, append-nil, h, k) at e
 
-pub ones-more : (l r : List Float) (n c : ℕ) → length l ≡ n → c < length l → take c l ++ ones (n - c) ≡ r → take (c + 1) (set l c one32) ++ ones (n - (c + 1)) ≡ r
+pub ones-more : (l r : List Float) (n c : ℕ) → length l ≡ n → c < length l → take c l ++ ones (n - c) ≡ r
+    → take (c + 1) (set l c one32) ++ ones (n - (c + 1)) ≡ r
 ones-more l r n c e h k =
     let one : n - c ≡ suc (n - (c + 1)) = omega arith in
     rw (add-one c, take-suc-set l c one32 h, append-assoc, ← add-one c) (rw one at k)

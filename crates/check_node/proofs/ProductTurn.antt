@@ -28,7 +28,8 @@ slot-length m a w h =
     rw am (sym (length-take-le m (drop a w) (simp length-drop (omega arith))))
 
 -- and hence as the slot that it is multiplied with
-pub front-slot : (m a : ℕ) (s r w : List Float) → m ≤ length s → a + m ≤ length w → length (take m (take m s ++ (r ++ drop (m + m - m) (drop m s)))) ≡ length (take (a + m - a) (drop a w))
+pub front-slot : (m a : ℕ) (s r w : List Float) → m ≤ length s → a + m ≤ length w
+    → length (take m (take m s ++ (r ++ drop (m + m - m) (drop m s)))) ≡ length (take (a + m - a) (drop a w))
 front-slot m a s r w h l = sym (front-length m s r h) ∙ slot-length m a w l
 
 module _ (m left a : ℕ) (w s : List Float) (room : a + m + left * m ≤ length w) (long : m + m ≤ length s) where
@@ -74,11 +75,6 @@ module _ (m left a : ℕ) (w s : List Float) (room : a + m + left * m ≤ length
         size = rw d3 (simp (length-append, length-drop) (omega (arith, lr, lc, long)));
       }
 
-  pub turned-length : (w1 s1 : List Float) → SlotTurned m left a w s w1 s1 → length w1 ≡ length w
-  turned-length w1 s1 t =
-      let e : length (take a w) ≡ a = length-take-le a w (omega arith) in
-      rw (t .slot) (simp (length-append, length-drop) (omega (arith, e, current-length, room)))
-
   -- the slots up to this one are done, and what is left is as it was
   pub turned-more : (w1 s1 r : List Float) → SlotTurned m left a w s w1 s1
       → take a w ++ slotProducts m (suc left) (take m s) (drop a w) ≡ r → take (a + m) w1 ++ slotProducts m left (take m s1) (drop (a + m) w1) ≡ r
@@ -113,7 +109,8 @@ ones-first m s r h e =
     let all : r ≡ ones m = rw (length-take-le m s h) at e in
     rw all (take-at (ones m) (drop m s) m (length-replicate m one32))
 
-pub turns-start : (m d : ℕ) (w s r : List Float) → m ≤ length s → r ≡ ones (length (take m s)) → slotProducts m d (take m (r ++ drop m s)) w ≡ slotProducts m d (ones m) w
+pub turns-start : (m d : ℕ) (w s r : List Float) → m ≤ length s → r ≡ ones (length (take m s))
+    → slotProducts m d (take m (r ++ drop m s)) w ≡ slotProducts m d (ones m) w
 turns-start m d w s r h e = ap (λ (l : List Float). slotProducts m d l w) (ones-first m s r h e)
 
 -- the products by slots, said of the columns

@@ -2,7 +2,7 @@
 // place j * m + c, and slot j is the part from j * m to (j + 1) * m. Each loop goes over a slot or two, so that the compiler works on several floats at a time.
 ghost use mathlib.Core.Path.{_≡_};
 ghost use mathlib.Core.Bool.{cond};
-ghost use mathlib.Core.List.{_++_, map};
+ghost use mathlib.Core.List.{_++_};
 ghost use Prim.Native.Nat.{ℕ, _+_, _*_, _<_, _≤_};
 ghost use lib.Ieee.{lt, eq};
 ghost use lib.ListN.{length, take, drop};
@@ -10,7 +10,7 @@ ghost use Rattle.tanner.specs.Flat.{Below};
 ghost use mathlib.Core.List.{List};
 ghost use lib.Ieee.{Float};
 ghost use Rattle.softmath.specs.Single.{product};
-ghost use Rattle.softmath.specs.CheckNode.{turned, minSum, atEach, middle, checkStep};
+ghost use Rattle.softmath.specs.CheckNode.{minSum, atEach, middle, checkStep};
 ghost use Rattle.softmath.specs.Others.{othersSum};
 ghost use Rattle.slots.specs.Columns.{columnFrom, column};
 ghost use Rattle.slots.specs.Layout.{scattered};

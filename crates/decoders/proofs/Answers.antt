@@ -105,4 +105,5 @@ lengths-right n k llr bits work a b c = simp (eq-eqb (length llr) n a, eq-eqb (l
 pub soft-right : (code rule : ℕ) (llr : List Float) (bits : List ℕ) (work : List Float) → code < 3 → rule < 4
     → length llr ≡ blockLength (codeOf code) → length bits ≡ codeOf code .k → 3070 ≤ length work → verdict (softWithRefusals code rule llr bits work) ≡ nothing
 soft-right code rule llr bits work c r a b w =
-    simp (lt-ltb code 3 c, le-ltb 4 rule (omega arith), ne-eqb rule 4 (λ e. omega arith)) (lengths-right (blockLength (codeOf code)) (codeOf code .k) llr bits work a b w)
+    simp (lt-ltb code 3 c, le-ltb 4 rule (omega arith), ne-eqb rule 4 (λ e. omega arith))
+    (lengths-right (blockLength (codeOf code)) (codeOf code .k) llr bits work a b w)

@@ -43,7 +43,8 @@ times-other x y (suc n) h = rw (ne-eqb y x h, times-other x y n h)
 times-past : (p c x : ℕ) (rs : Checks) → x < c → times x (listing p c rs) ≡ 0
 unfolding times listing
 times-past p c x [] h = refl
-times-past p c x (r ∷ rs) h = rw (times-append x (replicate (times p r) c) (listing p (suc c) rs), times-other x c (times p r) (λ e. omega arith), times-past p (suc c) x rs (omega arith))
+times-past p c x (r ∷ rs) h = rw
+    (times-append x (replicate (times p r) c) (listing p (suc c) rs), times-other x c (times p r) (λ e. omega arith), times-past p (suc c) x rs (omega arith))
 
 times-listing : (p c i : ℕ) (rs : Checks) → times (c + i) (listing p c rs) ≡ times p (getD rs i [])
 unfolding times listing

@@ -169,7 +169,8 @@ module _ (m : List ℕ) (size : length m ≡ 12) (bytes : Bytes m) (slack : getD
       let z : List ℕ = 0 ∷ 0 ∷ [] in
       packed-at 22 j word h
       ∙ ap (λ (n : ℕ). number (take 8 (drop n word))) e
-      ∙ ap (λ (l : List ℕ). number (take 8 l)) (from-parity d (8 + k) t ∙ ap (λ (l : List ℕ). l ++ z) (run-split f d 8 k) ∙ append-assoc (run f d 8) (run f (d + 8) k) z)
+      ∙ ap (λ (l : List ℕ). number (take 8 l)) (from-parity d (8 + k) t ∙ ap (λ (l : List ℕ). l ++ z) (run-split f d 8 k)
+      ∙ append-assoc (run f d 8) (run f (d + 8) k) z)
       ∙ ap number (take-at (run f d 8) (run f (d + 8) k ++ z) 8 (run-length f d 8))
       ∙ sym (gathered-number generator m d 8 (omega arith))
 

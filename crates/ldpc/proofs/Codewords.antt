@@ -18,7 +18,8 @@ use Rattle.ldpc.specs.Encoding.{under, rowsOfTwelve, parityBits, encodeB
 use Rattle.ldpc.proofs.Tests.{and-left, and-right}
 use Rattle.ldpc.proofs.CheckSets.{checkSets}
 use Rattle.ldpc.proofs.Parity.{under-bit}
-use Rattle.ldpc.proofs.Span.{Row, added, under-added, unit, under-unit, rowOf, under-row, under-take, AllEven, none, more, addedIf, sumAt, empty, sums, sums-even}
+use Rattle.ldpc.proofs.Span.{Row, added, under-added, unit, under-unit, rowOf, under-row, under-take}
+use Rattle.ldpc.proofs.Span.{AllEven, none, more, addedIf, sumAt, empty, sums, sums-even}
 
 -- ---- the test
 
@@ -79,7 +80,8 @@ module _ (w : Word) where
       let here : getD w (91 + i) 0 ≡ under (take 91 row) (take 91 w) =
       omega (arith, e, own-row i row, b (91 + i) (omega arith), under-bit (take 91 row) (take 91 w))
       in
-      drop-cons w (91 + i) 0 (omega arith) ∙ ap₂ (λ (x : ℕ) (l : List ℕ). x ∷ l) here (rw (add-suc 91 i) at (even-parities n (suc i) (drop 12 g) (omega arith) b es))
+      drop-cons w (91 + i) 0 (omega arith)
+      ∙ ap₂ (λ (x : ℕ) (l : List ℕ). x ∷ l) here (rw (add-suc 91 i) at (even-parities n (suc i) (drop 12 g) (omega arith) b es))
 
   parities-even : (n i : ℕ) (g : List ℕ) → drop (91 + i) w ≡ parities n g → AllEven w (withOwn i (rowsOfTwelve n g))
   unfolding withOwn rowsOfTwelve

@@ -86,7 +86,8 @@ module _ (g m : List ℕ) (size : length m ≡ 12) (slack : drop 91 (bits m) ≡
       let twelve : length row ≡ 12 = length-take-le 12 (drop (12 * a) g) (rw (length-drop (12 * a) g) (omega arith)) in
       row-parity row m (twelve ∙ sym size) ∙ under-front 91 5 (bits row) (bits m) slack
 
-  pub rows-parities : (a n : ℕ) → 12 * (a + n) ≤ length g → map (λ (row : List ℕ). under row (take 91 (bits m))) (rowsOfTwelve n (drop (12 * a) g)) ≡ run (parityAt g m) a n
+  pub rows-parities : (a n : ℕ) → 12 * (a + n) ≤ length g
+      → map (λ (row : List ℕ). under row (take 91 (bits m))) (rowsOfTwelve n (drop (12 * a) g)) ≡ run (parityAt g m) a n
   unfolding rowsOfTwelve run
   rows-parities a zero h = refl
   rows-parities a (suc n) h =

@@ -35,7 +35,8 @@ cross-below : (x y z p q r : ℕ) → 0 < q → z * p < x * r → x * q ≤ y * 
 cross-below x y z p q r Q h k = lt-of-not-le (λ w. omega (arith, h, through x y z p q r Q k w))
 
 -- below one magnitude and hence below another that is not less
-below-other : (u v w : Float) → eq (magnitudeOf w) (magnitudeOf w) ≡ true → lt (magnitudeOf u) (magnitudeOf v) ≡ true → lt (magnitudeOf w) (magnitudeOf v) ≡ false
+below-other : (u v w : Float) → eq (magnitudeOf w) (magnitudeOf w) ≡ true → lt (magnitudeOf u) (magnitudeOf v) ≡ true
+    → lt (magnitudeOf w) (magnitudeOf v) ≡ false
     → lt (magnitudeOf u) (magnitudeOf w) ≡ true
 unfolding lt eq magnitudeOf
 below-other nan v w g h k = cc
@@ -76,12 +77,14 @@ magnitude-twice (fin s m e) = refl
 
 below-second : (v l s : Float) → Size l → Size s → lt s l ≡ false → lt (magnitudeOf v) l ≡ true → lt (magnitudeOf v) s ≡ true
 below-second v l s kl ks k h =
-    let k1 : lt (magnitudeOf s) (magnitudeOf l) ≡ false = subst (λ (z : Float). lt z (magnitudeOf l) ≡ false) (ks .1) (subst (λ (z : Float). lt s z ≡ false) (kl .1) k) in
+    let k1 : lt (magnitudeOf s) (magnitudeOf l) ≡ false =
+    subst (λ (z : Float). lt z (magnitudeOf l) ≡ false) (ks .1) (subst (λ (z : Float). lt s z ≡ false) (kl .1) k) in
     subst (λ (z : Float). lt (magnitudeOf v) z ≡ true) (sym (ks .1))
     (below-other v l s (subst (λ (z : Float). eq z z ≡ true) (ks .1) (ks .0)) (subst (λ (z : Float). lt (magnitudeOf v) z ≡ true) (kl .1) h) k1)
 
 not-below : (v l : Float) → Size l → lt (magnitudeOf v) l ≡ true → lt l (magnitudeOf v) ≡ false
-not-below v l kl h = subst (λ (z : Float). lt z (magnitudeOf v) ≡ false) (sym (kl .1)) (not-both v l (subst (λ (z : Float). lt (magnitudeOf v) z ≡ true) (kl .1) h))
+not-below v l kl h = subst (λ (z : Float). lt z (magnitudeOf v) ≡ false) (sym (kl .1))
+    (not-both v l (subst (λ (z : Float). lt (magnitudeOf v) z ≡ true) (kl .1) h))
 
 -- ---- what is kept, after one message more: x and y say what the two tests answered
 
@@ -94,7 +97,8 @@ chosen x y m a i =
 abbrev Kept : Minima → Type 0
 Kept m = Size (m .least) × Size (m .second) × (lt (m .second) (m .least) ≡ false)
 
-kept-chosen : (x y : Bool) (m : Minima) (v : Float) (i : ℕ) → lt (magnitudeOf v) (m .least) ≡ x → lt (magnitudeOf v) (m .second) ≡ y → Kept m → Kept (chosen x y m (magnitudeOf v) i)
+kept-chosen : (x y : Bool) (m : Minima) (v : Float) (i : ℕ) → lt (magnitudeOf v) (m .least) ≡ x → lt (magnitudeOf v) (m .second) ≡ y → Kept m
+    → Kept (chosen x y m (magnitudeOf v) i)
 kept-chosen true y m v i qx qy k = ((lt-self (magnitudeOf v) (m .least) qx, magnitude-twice v), k .0, not-below v (m .least) (k .0) qx)
 kept-chosen false true m v i qx qy k = (k .0, (lt-self (magnitudeOf v) (m .second) qy, magnitude-twice v), qx)
 kept-chosen false false m v i qx qy k = k
@@ -113,7 +117,8 @@ abbrev otherLeast : ℕ → Minima → Float
 otherLeast j m = cond (eqb j (m .place)) (m .second) (m .least)
 
 -- at its own turn an entry's others are those before
-own-chosen : (x y b : Bool) (m : Minima) (a : Float) (i : ℕ) → lt a (m .least) ≡ x → lt a (m .second) ≡ y → eqb i (m .place) ≡ b → (m .place ≡ i → m .second ≡ m .least)
+own-chosen : (x y b : Bool) (m : Minima) (a : Float) (i : ℕ) → lt a (m .least) ≡ x → lt a (m .second) ≡ y → eqb i (m .place) ≡ b
+    → (m .place ≡ i → m .second ≡ m .least)
     → otherLeast i (chosen x y m a i) ≡ m .least
 own-chosen true y b m a i qx qy qb f = rw (eq-eqb i i refl) refl
 own-chosen false true true m a i qx qy qb f =
@@ -124,9 +129,11 @@ own-chosen false false true m a i qx qy qb f = rw qb (f (sym (eqb-true i (m .pla
 own-chosen false false false m a i qx qy qb f = rw qb refl
 
 -- later the new message is one of its others
-later-chosen : (x y b : Bool) (m : Minima) (v : Float) (i j : ℕ) → lt (magnitudeOf v) (m .least) ≡ x → lt (magnitudeOf v) (m .second) ≡ y → eqb j (m .place) ≡ b → Kept m → j < i
+later-chosen : (x y b : Bool) (m : Minima) (v : Float) (i j : ℕ) → lt (magnitudeOf v) (m .least) ≡ x → lt (magnitudeOf v) (m .second) ≡ y
+    → eqb j (m .place) ≡ b → Kept m → j < i
     → otherLeast j (chosen x y m (magnitudeOf v) i) ≡ lesserOf (otherLeast j m) v
-later-chosen true y true m v i j qx qy qb k h = rw (qb, ne-eqb j i (λ q. omega (arith, h, q)), below-second v (m .least) (m .second) (k .0) (k .1) (k .2) qx) refl
+later-chosen true y true m v i j qx qy qb k h = rw (qb, ne-eqb j i (λ q. omega (arith, h, q)), below-second v (m .least) (m .second) (k .0) (k .1) (k .2) qx)
+    refl
 later-chosen true y false m v i j qx qy qb k h = rw (qb, ne-eqb j i (λ q. omega (arith, h, q)), qx) refl
 later-chosen false true true m v i j qx qy qb k h = rw (qb, qy) refl
 later-chosen false true false m v i j qx qy qb k h = rw (qb, qx) refl
@@ -159,11 +166,13 @@ module _ (m : Minima) (i : ℕ) (v : Float) where
 
   own-seen : Early m i → otherLeast i (seen m i v) ≡ m .least
   unfolding seen
-  own-seen k = own-chosen (lt (magnitudeOf v) (m .least)) (lt (magnitudeOf v) (m .second)) (eqb i (m .place)) (withSign m (turned v (m .sign))) (magnitudeOf v) i refl refl refl (k .1)
+  own-seen k = own-chosen (lt (magnitudeOf v) (m .least)) (lt (magnitudeOf v) (m .second)) (eqb i (m .place)) (withSign m (turned v (m .sign))) (magnitudeOf v)
+      i refl refl refl (k .1)
 
   later-seen : (j : ℕ) → Kept m → j < i → otherLeast j (seen m i v) ≡ lesserOf (otherLeast j m) v
   unfolding seen
-  later-seen j k h = later-chosen (lt (magnitudeOf v) (m .least)) (lt (magnitudeOf v) (m .second)) (eqb j (m .place)) (withSign m (turned v (m .sign))) v i j refl refl refl k h
+  later-seen j k h = later-chosen (lt (magnitudeOf v) (m .least)) (lt (magnitudeOf v) (m .second)) (eqb j (m .place)) (withSign m (turned v (m .sign))) v i j
+      refl refl refl k h
 
   least-seen : (seen m i v) .least ≡ lesserOf (m .least) v
   unfolding seen

@@ -19,13 +19,17 @@ pub front-length : {A : Type 0} (n : ℕ) (l : List A) → length l ≡ n → n 
 front-length n l e = sym (ap length (front-whole n l e) ∙ e)
 
 -- A loop that reads each element: G says what is left to do from the state s with the elements that are left.
-module _ {A S R : Type 0} (G : S → List A → R) (next : S → A → List A → S) (step : (s : S) (x : A) (xs : List A) → G s (x ∷ xs) ≡ G (next s x xs) xs) (d : A) where
-  pub read-more : (l : List A) (r : R) (i : ℕ) (s t : S) → i < length l → t ≡ next s (getD l i d) (drop (i + 1) l) → G s (drop i l) ≡ r → G t (drop (i + 1) l) ≡ r
+module _ {A S R : Type 0} (G : S → List A → R) (next : S → A → List A → S) (step : (s : S) (x : A) (xs : List A)
+    → G s (x ∷ xs) ≡ G (next s x xs) xs) (d : A) where
+  pub read-more : (l : List A) (r : R) (i : ℕ) (s t : S) → i < length l → t ≡ next s (getD l i d) (drop (i + 1) l) → G s (drop i l) ≡ r
+      → G t (drop (i + 1) l) ≡ r
   read-more l r i s t h e k = rw e (rw add-one (sym (step s (getD l i d) (drop (suc i) l)) ∙ (rw (drop-cons l i d h) at k)))
 
 -- A loop that puts a value in each element's place: F makes the values from the state s on, and out the one in x's place, with xs after it.
-module _ {A S : Type 0} (F : S → List A → List A) (out : S → A → List A → A) (next : S → A → S) (step : (s : S) (x : A) (xs : List A) → F s (x ∷ xs) ≡ out s x xs ∷ F (next s x) xs) (d : A) where
-  pub place-more : (l r : List A) (i : ℕ) (s t : S) (v : A) → i < length l → v ≡ out s (getD l i d) (drop (i + 1) l) → t ≡ next s (getD l i d) → take i l ++ F s (drop i l) ≡ r
+module _ {A S : Type 0} (F : S → List A → List A) (out : S → A → List A → A) (next : S → A → S) (step : (s : S) (x : A) (xs : List A)
+    → F s (x ∷ xs) ≡ out s x xs ∷ F (next s x) xs) (d : A) where
+  pub place-more : (l r : List A) (i : ℕ) (s t : S) (v : A) → i < length l → v ≡ out s (getD l i d) (drop (i + 1) l) → t ≡ next s (getD l i d)
+      → take i l ++ F s (drop i l) ≡ r
       → take (i + 1) (set l i v) ++ F t (drop (i + 1) (set l i v)) ≡ r
   place-more l r i s t v h e g k =
       let h1 : i < suc i = omega arith in

@@ -26,6 +26,7 @@ module _ (op : Float → Float → Float) where
   prefix-shared s passed (x ∷ xs) = rw (fold-append s passed xs, prefix-shared s (passed ++ (x ∷ [])) xs, fold-append s passed (x ∷ []))
 
   -- a turn of a loop that folds
-  pub fold-more : (l : List Float) (r : Float) (i : ℕ) (s : Float) → i < length l → foldFrom op s (drop i l) ≡ r → foldFrom op (op s (getD l i nan)) (drop (i + 1) l) ≡ r
+  pub fold-more : (l : List Float) (r : Float) (i : ℕ) (s : Float) → i < length l → foldFrom op s (drop i l) ≡ r
+      → foldFrom op (op s (getD l i nan)) (drop (i + 1) l) ≡ r
   unfolding foldFrom
   fold-more l r i s h k = read-more (foldFrom op) (λ s x xs. op s x) (λ s x xs. refl) nan l r i s _ h refl k

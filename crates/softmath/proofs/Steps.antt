@@ -7,7 +7,8 @@ use lib.ListN.{length, length-map}
 use lib.Ieee.{Float, nan, inf, fin, binary32, unlike, div, neg}
 use Rattle.softmath.specs.Single.{_⊘_, two32, product}
 use Rattle.softmath.specs.Functions.{tanh}
-use Rattle.softmath.specs.CheckNode.{Minima, overOthers, atEach, minAnswers, minSum, minimaOf, halfTanh, negatedHalfTanh, checkStep, before, middle, after}
+use Rattle.softmath.specs.CheckNode.{Minima, overOthers, atEach, minAnswers, minSum, minimaOf}
+use Rattle.softmath.specs.CheckNode.{halfTanh, negatedHalfTanh, checkStep, before, middle, after}
 use Rattle.softmath.specs.declared.DecodeRule.{DecodeRule}
 use Rattle.softmath.specs.declared.DecodeRule.the-variants.{SumProduct, MinSum, ScaledMinSum, Ft8}
 
@@ -46,7 +47,8 @@ map-append : (h : Float → Float) (xs ys : List Float) → map h (xs ++ ys) ≡
 map-append h [] ys = refl
 map-append h (x ∷ xs) ys = ap (λ (zs : List Float). h x ∷ zs) (map-append h xs ys)
 
-over-map : (h : Float → Float) (f : List Float → Float) (passed xs : List Float) → overOthers f (map h passed) (map h xs) ≡ overOthers (λ ys. f (map h ys)) passed xs
+over-map : (h : Float → Float) (f : List Float → Float) (passed xs : List Float)
+    → overOthers f (map h passed) (map h xs) ≡ overOthers (λ ys. f (map h ys)) passed xs
 unfolding overOthers
 over-map h f passed [] = refl
 over-map h f passed (x ∷ xs) = rw (map-append h passed xs, ← over-map h f (passed ++ (x ∷ [])) xs, map-append h passed (x ∷ []))

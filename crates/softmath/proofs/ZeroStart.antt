@@ -128,7 +128,8 @@ zero-start llr own answers m = ⊎-elim (λ e. rw e)
     (sums answers)
 
 -- every message of a bit: those of a total started from -0.0 are those of the definition
-messages-from : (t u : Float) (answers : List Float) → ((own : Float) → List·Memᴰ own answers → t ⊖ own ≡ u ⊖ own) → map (λ own. t ⊖ own) answers ≡ map (λ own. u ⊖ own) answers
+messages-from : (t u : Float) (answers : List Float) → ((own : Float) → List·Memᴰ own answers → t ⊖ own ≡ u ⊖ own)
+    → map (λ own. t ⊖ own) answers ≡ map (λ own. u ⊖ own) answers
 messages-from t u [] h = refl
 messages-from t u (a ∷ ys) h = rw (h a (List·Memᴰ·head refl), messages-from t u ys (λ own m. h own (List·Memᴰ·tail m)))
 

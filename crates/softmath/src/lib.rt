@@ -1,15 +1,13 @@
 // The f32 arithmetic of a decoding round that needs no layout: the functions, each message and each answer by itself, and the second engine of min-sum.
 // Each operation is rounded once, in a fixed order.
 ghost use mathlib.Core.Path.{_≡_};
-ghost use mathlib.Core.Bool.{true, cond};
-ghost use Prim.Native.Nat.{_≤_};
+ghost use mathlib.Core.Bool.{cond};
 ghost use mathlib.Core.List.{map, _++_};
-ghost use lib.Dec.{eqb};
-ghost use lib.Ieee.{neg, lt, eq};
-ghost use lib.ListN.{length, take};
-ghost use Rattle.softmath.specs.Single.{_⊘_, _⊗_, foldFrom, product, sumFrom};
+ghost use lib.Ieee.{neg, lt};
+ghost use lib.ListN.{length};
+ghost use Rattle.softmath.specs.Single.{_⊘_, foldFrom};
 ghost use Rattle.softmath.specs.Functions.{tanh, atanh, clampUnit, magnitudeOf, decide};
-ghost use Rattle.softmath.specs.CheckNode.{atEach, turned, seen, minimaOf, minAnswer, minSum, clampedAnswer, negatedAnswer, before, middle, after};
+ghost use Rattle.softmath.specs.CheckNode.{turned, clampedAnswer, negatedAnswer, before, after};
 ghost use Rattle.softmath.specs.Others.{lesserOf, turnedBy, othersAnswer, othersSum};
 
 // How a check answers: the three rules of the staircase codes, and (174,91)'s own.

@@ -1,7 +1,7 @@
 -- The three edges of the program's bit lie within its 11 floats, and no pad lies anywhere. Assumes nothing.
 use mathlib.Core.Path.{_≡_}
 use mathlib.Core.List.{[], _∷_}
-use Prim.Native.Nat.{ℕ, zero, suc}
+use Prim.Native.Nat.{ℕ}
 use native.Mathlib.Omega.{arith}
 use Rattle.tanner.specs.Flat.{Below}
 use Rattle.tanner.proofs.Below.{below-none, below-cons}

@@ -9,7 +9,8 @@ use native.Mathlib.Omega.{arith}
 use borrow.Author.Tests.{eqb-true, eqb-false}
 use lib.Dec.{eqb}
 use lib.ListN.{length, getD, take}
-use Rattle.tanner.specs.Checks.{Word, Checks, First, check, none, Syndrome, parity, count, lowBits, xorFrom, nonzero, countBytes, firstBy, firstUnsatisfied, FirstIs, counted, satisfied, syndrome, syndromeOfBytes}
+use Rattle.tanner.specs.Checks.{Word, Checks, First, check, none, Syndrome, parity, count, lowBits}
+use Rattle.tanner.specs.Checks.{xorFrom, nonzero, countBytes, firstBy, firstUnsatisfied, FirstIs, counted, satisfied, syndrome, syndromeOfBytes}
 use Rattle.tanner.specs.Masked.{measured, countMasked, syndromeMasked}
 use Rattle.tanner.specs.Flat.{Below}
 use Rattle.tanner.proofs.Count.{AllBelow, none as no-more, more, low-check, low-count, byte-check, byte-count, parity-front, count-front}

@@ -1,5 +1,5 @@
 -- One turn of each counting loop: what is left to do, said of the rest of the list. Assumes nothing.
-use mathlib.Core.Path.{_≡_, sym, ap, subst, _∙_}
+use mathlib.Core.Path.{_≡_, sym, subst}
 use mathlib.Core.List.{List, [], _∷_}
 use mathlib.Core.Bool.{cond}
 use Prim.Native.Nat.{ℕ, suc, _+_, _-_, _<_, _≤_}
@@ -8,7 +8,7 @@ use native.Mathlib.Omega.{arith}
 use lib.Bits.{bitAnd, bitXor}
 use lib.Dec.{eqb}
 use lib.ListN.{length, getD, take, drop, drop-of-length-le}
-use lib.Seq.{drop-cons, take-all}
+use lib.Seq.{drop-cons}
 use borrow.Author.Tests.{eq-eqb, ne-eqb}
 use Rattle.tanner.specs.Checks.{Checks, First, check, none, xorFrom, nonzero, firstBy}
 use Rattle.tanner.specs.Masked.{countMasked, measured}
@@ -49,20 +49,6 @@ module _ (mask : ℕ) (bytes r : List ℕ) (rest rs : Checks) (u z x : ℕ) (h :
 pub count-done : (mask : ℕ) (bytes : List ℕ) (rest : Checks) (u z : ℕ) → rest ≡ [] → u + countMasked mask rest bytes ≡ z → u ≡ z
 unfolding countMasked
 count-done mask bytes rest u z h e = omega (arith, rw h at e)
-
--- ---- a part that is the whole, which has as many entries as the literal that cuts it says
-
-front-whole : (n : ℕ) (l : List ℕ) → length l ≡ n → take n l ≡ l
-front-whole n l e = take-all n l (omega (arith, e))
-
-pub front-length : (n : ℕ) (l : List ℕ) → length l ≡ n → n ≡ length (take n l)
-front-length n l e = sym (ap length (front-whole n l e) ∙ e)
-
-pub front-below : (m n : ℕ) (l : List ℕ) → length l ≡ n → Below m l → Below m (take n l)
-front-below m n l e below = rw (front-whole n l e) below
-
-pub front-xor : (x r n : ℕ) (l bytes : List ℕ) → length l ≡ n → r ≡ xorFrom x (take n l) bytes → r ≡ xorFrom x l bytes
-front-xor x r n l bytes e given = rw (front-whole n l e) at given
 
 -- ---- one turn of the scan for the first check
 

@@ -20,8 +20,10 @@ returns : tie.Need-returns
 returns c =
     let done = c .before .before .before .before in
     let named = done .before .before .before in
-    let a = named .before .before .before .before .args in
-    (frame-chosen (a .code) (a .rule) (a .scale) (a .limit) (a .llr .now) _ _ _ _ (named .rule-of .ensures) (done .decode .ensures .0), done .decode .ensures .1)
+    let a = named .before .before .before .before .args in (
+      frame-chosen (a .code) (a .rule) (a .scale) (a .limit) (a .llr .now) _ _ _ _ (named .rule-of .ensures) (done .decode .ensures .0),
+      done .decode .ensures .1,
+    )
 
 pub decode-frame-spec : {M : Type 1} → statement M
 decode-frame-spec =

@@ -46,7 +46,8 @@ same-length c = search needs
 returns : tie.Need-returns Inv-loop μ-loop
 returns c =
     let n = length (c .before .before .args .part .now) in
-    fill-done (replicate n zero32) zero32 (c .before .loop .part) (c .before .loop .i) (simp length-replicate (omega arith)) (simp length-replicate (omega arith)) (c .before .loop .inv .2)
+    fill-done (replicate n zero32) zero32 (c .before .loop .part) (c .before .loop .i) (simp length-replicate (omega arith))
+    (simp length-replicate (omega arith)) (c .before .loop .inv .2)
 
 pub clear-spec : {M : Type 1} → statement M
 clear-spec =

@@ -55,7 +55,8 @@ slice-aggregate-clear c =
     let done = c .before .before .before .before .before .before in
     let m = done .before .before .before .before in
     let start = m .before .before .before .before in
-    lent-part (start .args .work .now) (done .choose .last .1 .1 .1 .1 .0) (m .message-room .result) 3070 (done .choose .kept .1 .1 .1 .1 .0) (m .message-room .ensures .1)
+    lent-part (start .args .work .now) (done .choose .last .1 .1 .1 .1 .0) (m .message-room .result) 3070 (done .choose .kept .1 .1 .1 .1 .0)
+    (m .message-room .ensures .1)
     (start .pre .1 .1 .1)
 
 clear-requires : tie.Need-clear-requires
@@ -75,7 +76,8 @@ returns c =
     let m = done .before .before .before .before in
     let start = m .before .before .before .before in (
       done .choose .ensures,
-      lent-cleared (start .args .work .now) (done .choose .last .1 .1 .1 .1 .0) (m .message-room .result) 3070 (done .choose .kept .1 .1 .1 .1 .0) (m .message-room .ensures .1)
+      lent-cleared (start .args .work .now) (done .choose .last .1 .1 .1 .1 .0) (m .message-room .result) 3070 (done .choose .kept .1 .1 .1 .1 .0)
+          (m .message-room .ensures .1)
           (start .pre .1 .1 .1) zero32 _ (cleared .clear .ensures),
     )
 

@@ -25,8 +25,16 @@ first-messages-requires c κs = search needs
 rounds-requires : tie.Need-rounds-requires
 rounds-requires c κs =
     let first = c .before .before .before .before .before in
-    let p = entry (first .before .before .before) .pre in
-    (p .0, (p .1 .0, (first .first-messages .kept .1 .1 .0 ∙ p .1 .1 .0, (ap length (p .1 .1 .1 .0) ∙ initial-length _ ∙ p .1 .0, (p .1 .1 .1 .1 .0, p .1 .1 .1 .1 .1)))))
+    let p = entry (first .before .before .before) .pre in (
+      p .0,
+      (
+        p .1 .0,
+        (
+          first .first-messages .kept .1 .1 .0 ∙ p .1 .1 .0,
+          (ap length (p .1 .1 .1 .0) ∙ initial-length _ ∙ p .1 .0, (p .1 .1 .1 .1 .0, p .1 .1 .1 .1 .1)),
+        ),
+      ),
+    )
 
 same-length : tie.Need-same-length
 same-length c = search needs

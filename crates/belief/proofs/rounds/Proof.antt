@@ -22,7 +22,8 @@ abbrev Inv-loop : tie.InvT-loop
 Inv-loop code rule limit llr messages₀ hard₀ bits₀ kept₀ done₀ messages hard bits kept done = let d = decodeAt code rule llr in
     (done ≤ limit) × (length messages ≡ room code) × (length hard ≡ sizeN code) × (length bits ≡ length bits₀)
     × ((ms : List Float) → HeldBy code messages₀ ms
-    → Running d (sizeM code) (degree code) (length bits₀) (limit - done) messages bits kept done (chosenFrom (d .checks) hard₀ (wordsFrom d limit ms)) (length (wordsFrom d limit ms)))
+    → Running d (sizeM code) (degree code) (length bits₀) (limit - done) messages bits kept done (chosenFrom (d .checks) hard₀ (wordsFrom d limit ms))
+    (length (wordsFrom d limit ms)))
 
 abbrev μ-loop : tie.MeasureT-loop
 μ-loop code rule limit llr messages₀ hard₀ bits₀ kept₀ done₀ messages hard bits kept done = limit - done
@@ -64,7 +65,8 @@ Held l ms = let a = entry l .args in HeldBy (a .code) (a .messages .now) ms
 
 -- the running state at the turn's start, with the round counted off
 running : (j : tie.Joined1 Inv-loop μ-loop) (ms : List Float) → let l = turn (met j) in Held l ms → let a = entry l .args in
-    Running (d l) (sizeM (a .code)) (degree (a .code)) (length (a .bits .now)) (suc (a .limit - (l .loop .done + 1))) (l .loop .messages) (l .loop .bits) (l .loop .kept)
+    Running (d l) (sizeM (a .code)) (degree (a .code)) (length (a .bits .now)) (suc (a .limit - (l .loop .done + 1))) (l .loop .messages) (l .loop .bits)
+    (l .loop .kept)
     (l .loop .done) (goal l ms) (all l ms)
 running j ms h =
     let l = turn (met j) in

@@ -12,7 +12,8 @@ use Rattle.check_node.proofs.answer_each.Statement.{statement}
 use Rattle.check_node.proofs.answer_each.Tie as tie
 
 abbrev Inv-loop : tie.InvT-loop
-Inv-loop rule m d work₀ scratch a₀ left₀ work a left = (a + left * m ≡ length work) × (length work ≡ length work₀) × AnsweredFrom (factorOf rule) m d (cellIn m scratch) work₀ a left work
+Inv-loop rule m d work₀ scratch a₀ left₀ work a left = (a + left * m ≡ length work) × (length work ≡ length work₀)
+    × AnsweredFrom (factorOf rule) m d (cellIn m scratch) work₀ a left work
 
 abbrev μ-loop : tie.MeasureT-loop
 μ-loop rule m d work₀ scratch a₀ left₀ work a left = left

@@ -65,7 +65,8 @@ returns-2 c =
     let set = told .before .before .before .before in
     let pad = set .before .before in
     let start = pad .before .before .before in
-    padded-step (start .args .rule) _ _ _ _ _ _ _ _ (min-sum-rule _ (told .enum-told2 .given .1)) (pad .pad-of .ensures) (set .scatter .ensures) (call .min-sum-step .ensures)
+    padded-step (start .args .rule) _ _ _ _ _ _ _ _ (min-sum-rule _ (told .enum-told2 .given .1)) (pad .pad-of .ensures) (set .scatter .ensures)
+    (call .min-sum-step .ensures)
 
 same-length-3 : tie.Need-same-length-3
 same-length-3 c = search needs
@@ -77,7 +78,8 @@ returns-3 c =
     let set = told .before .before .before .before in
     let pad = set .before .before in
     let start = pad .before .before .before in
-    padded-step (start .args .rule) _ _ _ _ _ _ _ _ (scaled-rule _ _ (told .enum-told3 .given .1)) (pad .pad-of .ensures) (set .scatter .ensures) (call .min-sum-step2 .ensures)
+    padded-step (start .args .rule) _ _ _ _ _ _ _ _ (scaled-rule _ _ (told .enum-told3 .given .1)) (pad .pad-of .ensures) (set .scatter .ensures)
+    (call .min-sum-step2 .ensures)
 
 same-length-4 : tie.Need-same-length-4
 same-length-4 c = search needs

@@ -11,13 +11,15 @@ use Rattle.check_node.proofs.note_each.Statement.{statement}
 use Rattle.check_node.proofs.note_each.Tie as tie
 
 abbrev Inv-loop : tie.InvT-loop
-Inv-loop m d work scratch₀ a₀ left₀ scratch a left = (a + left * m ≡ length work) × (length scratch ≡ length scratch₀) × NotedFrom m d work (cellIn m scratch₀) a left (cellIn m scratch)
+Inv-loop m d work scratch₀ a₀ left₀ scratch a left = (a + left * m ≡ length work) × (length scratch ≡ length scratch₀)
+    × NotedFrom m d work (cellIn m scratch₀) a left (cellIn m scratch)
 
 abbrev μ-loop : tie.MeasureT-loop
 μ-loop m d work scratch₀ a₀ left₀ scratch a left = left
 
 -- in a turn: the slot lies within the work area
-within : (c : tie.In-loop Inv-loop μ-loop) → c .before .loop .a + c .before .before .before .before .args .m ≤ length (c .before .before .before .before .args .work .now)
+within : (c : tie.In-loop Inv-loop μ-loop)
+    → c .before .loop .a + c .before .before .before .before .args .m ≤ length (c .before .before .before .before .args .work .now)
 within c = room _ _ _ _ (c .loop-test .taken) (c .before .loop .inv .0)
 
 loop-holds : tie.Need-loop-holds Inv-loop μ-loop

@@ -108,7 +108,8 @@ loop-again c =
     let start = turn .before .before .before .before in (
       omega arith,
       simp length-set (omega arith),
-      note-in-more _ _ _ _ _ _ _ _ _ _ (start .pre .0) (turn .loop-test .taken) (omega arith) (read .shared-slice-known2 .given (turn .before .loop .c)) (size .magnitude .ensures)
+      note-in-more _ _ _ _ _ _ _ _ _ _ (start .pre .0) (turn .loop-test .taken) (omega arith) (read .shared-slice-known2 .given (turn .before .loop .c))
+          (size .magnitude .ensures)
           (first .lesser .ensures) (second .pushed .ensures) (third .lesser2 .ensures) (c .turn-sign .ensures) (turn .before .loop .inv .2),
     )
 

@@ -33,7 +33,12 @@ loop-less : tie.Need-loop-less Inv-loop μ-loop
 loop-less c = search needs
 
 loop-again : tie.Need-loop-again Inv-loop μ-loop
-loop-again c = (search needs, simp length-set (c .before .loop .inv .1), ones-more _ _ _ _ (c .before .loop .inv .1) (c .loop-test .taken) (c .before .loop .inv .2))
+loop-again c = (
+  search needs,
+  simp length-set (c .before .loop .inv .1),
+  ones-more _ _ _ _ (c .before .loop .inv .1) (c .loop-test .taken)
+      (c .before .loop .inv .2),
+)
 
 same-length : tie.Need-same-length Inv-loop μ-loop
 same-length c = search needs

@@ -44,7 +44,8 @@ ones-slot-requires c κs = search needs
 
 loop-holds : tie.Need-loop-holds Inv-loop μ-loop
 loop-holds c =
-    let long : c .before .before .before .before .before .before .args .m ≤ length (c .before .before .before .before .before .before .args .scratch .now) = omega arith in
+    let long : c .before .before .before .before .before .before .args .m ≤ length (c .before .before .before .before .before .before .args .scratch .now) =
+    omega arith in
     (omega arith, search needs, search needs, turns-start _ _ _ _ _ long (c .before .before .ones-slot .ensures))
 
 sub-left : tie.Need-sub-left Inv-loop μ-loop
@@ -62,8 +63,13 @@ loop-less c = search needs
 loop-again : tie.Need-loop-again Inv-loop μ-loop
 loop-again c =
     let turn = c .before .before .before .before .before .before .before in
-    let inv = turn .before .loop .inv in
-    (omega (arith, fits turn), search needs, search needs, turns-more _ _ _ _ _ _ _ _ (turn .loop-test .taken) (inv .0) (long turn) (c .before .before .before .before .turn-slot .ensures) (inv .3))
+    let inv = turn .before .loop .inv in (
+      omega (arith, fits turn),
+      search needs,
+      search needs,
+      turns-more _ _ _ _ _ _ _ _ (turn .loop-test .taken) (inv .0) (long turn)
+          (c .before .before .before .before .turn-slot .ensures) (inv .3),
+    )
 
 same-length : tie.Need-same-length Inv-loop μ-loop
 same-length c = search needs

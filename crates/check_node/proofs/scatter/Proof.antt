@@ -11,7 +11,8 @@ use Rattle.check_node.proofs.scatter.Statement.{statement}
 use Rattle.check_node.proofs.scatter.Tie as tie
 
 abbrev Inv-loop : tie.InvT-loop
-Inv-loop value places work₀ i₀ work i = (i ≤ length places) × (length work ≡ length work₀) × (scattered value (drop i places) work ≡ scattered value places work₀)
+Inv-loop value places work₀ i₀ work i = (i ≤ length places) × (length work ≡ length work₀)
+    × (scattered value (drop i places) work ≡ scattered value places work₀)
 
 abbrev μ-loop : tie.MeasureT-loop
 μ-loop value places work₀ i₀ work i = length places - i

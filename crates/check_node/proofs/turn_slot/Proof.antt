@@ -50,7 +50,8 @@ slice-aggregate-times-slot : tie.Need-slice-aggregate-times-slot
 slice-aggregate-times-slot c =
     let long : c .before .before .before .before .before .before .before .before .before .before .before .before .before .args .m ≤ length
     (c .before .before .before .before .before .before .before .before .before .copy-behind .last .1 .0) = omega arith in
-    front-length _ (c .before .before .before .before .before .before .before .before .before .copy-behind .last .1 .0) (c .before .before .before .times-slots .last .1 .1 .0) long
+    front-length _ (c .before .before .before .before .before .before .before .before .before .copy-behind .last .1 .0)
+    (c .before .before .before .times-slots .last .1 .1 .0) long
 
 mul-times-slot : tie.Need-mul-times-slot
 mul-times-slot c = search needs
@@ -67,7 +68,8 @@ part-times-slot-end c = search needs
 times-slot-requires : tie.Need-times-slot-requires
 times-slot-requires c κs =
     let start = c .before .before .before .before .before .before .before .before .before .before .before .before .before .before .before in
-    let long : start .args .m ≤ length (c .before .before .before .before .before .before .before .before .before .before .before .copy-behind .last .1 .0) = omega arith in
+    let long : start .args .m ≤ length (c .before .before .before .before .before .before .before .before .before .before .before .copy-behind .last .1 .0) =
+    omega arith in
     let room : start .args .a + start .args .m ≤ length (start .args .work .now) = omega arith in
     front-slot _ _ (c .before .before .before .before .before .before .before .before .before .before .before .copy-behind .last .1 .0)
     (c .before .before .before .before .before .times-slots .last .1 .1 .0) _ long room
@@ -107,7 +109,8 @@ same-length-2 c = search needs
 
 returns : tie.Need-returns
 returns c =
-    let behind = c .before .before .before .before .before .before .before .before .before .before .before .before .before .before .before .before .before .before .before .before in
+    let behind = c .before .before .before .before .before .before .before .before .before .before .before .before .before .before .before .before .before
+    .before .before .before in
     let start = behind .before .before .before .before in
     turn-done _ _ _ _ _ (start .pre .0) (start .pre .1) _ _ _ _
     (behind .copy-behind .ensures) (c .before .before .before .before .before .before .before .before .before .before .before .before .before .before

@@ -60,11 +60,17 @@ values-of-requires : tie.Need-values-of-requires
 values-of-requires c κs = search needs
 
 -- the tests of the numbers, passed
-by-lengths : (c : tie.Else3) (n : ℕ) → let a = start c .args in verdict (frameRefusals (blockLength (codeOf (a .code))) (codeOf (a .code) .k) (a .llr .now) (a .bits .now) (a .work .now)) ≡ refused n
+by-lengths : (c : tie.Else3) (n : ℕ)
+    → let a = start c .args in verdict (frameRefusals (blockLength (codeOf (a .code))) (codeOf (a .code) .k) (a .llr .now) (a .bits .now) (a .work .now))
+    ≡ refused n
     → verdict (call (start c) .refusals) ≡ refused n
 by-lengths c n e =
     let k = code-right c in
-    simp (lt-ltb _ _ (k .0), le-ltb 4 (start c .args .rule) (omega (arith, k .1)), ne-eqb (start c .args .rule) 4 (λ (q : start c .args .rule ≡ 4). omega (arith, k .1))) e
+    simp (
+      lt-ltb _ _ (k .0),
+      le-ltb 4 (start c .args .rule) (omega (arith, k .1)),
+      ne-eqb (start c .args .rule) 4 (λ (q : start c .args .rule ≡ 4). omega (arith, k .1)),
+    ) e
 
 returns-4 : tie.Need-returns-4
 returns-4 c =
@@ -111,7 +117,8 @@ returns-7 c =
     let p = numbers (values v) in
     let a = start p .args in
     let k = code-right p in
-    let right = soft-right (a .code) (a .rule) (a .llr .now) (a .bits .now) (a .work .now) (k .0) (k .1) (values-right (values v)) (bits-right v) (named .before .if6 .left) in
+    let right = soft-right (a .code) (a .rule) (a .llr .now) (a .bits .now) (a .work .now) (k .0) (k .1) (values-right (values v)) (bits-right v)
+    (named .before .if6 .left) in
     let chose = rw (staircase-at _ (k .0) _ _, named .staircase-rule .ensures, bits-right v) at (done .decode .ensures .0) in
     decoded (call (start p)) right _ _ _ chose (done .decode .ensures .1)
 

@@ -21,9 +21,11 @@ so-far1 c = let s = c .before .before .before .before .args in first-rows (s .ma
 abbrev sum2 : tie.After-count-rows2 → ℕ
 sum2 c = sum1 (c .before .before .before) + c .count-rows2 .result
 
-so-far2 : (c : tie.After-count-rows2) → let s = c .before .before .before .before .before .before .before .args in sum2 c ≡ countMasked (s .mask) (sevens 22 nm) (s .padded .now)
+so-far2 : (c : tie.After-count-rows2)
+    → let s = c .before .before .before .before .before .before .before .args in sum2 c ≡ countMasked (s .mask) (sevens 22 nm) (s .padded .now)
 unfolding nm
-so-far2 c = let s = c .before .before .before .before .before .before .before .args in rows-and (s .mask) (s .padded .now) 11 11 _ _ (so-far1 (c .before .before .before)) (c .count-rows2 .ensures)
+so-far2 c = let s = c .before .before .before .before .before .before .before .args in rows-and (s .mask) (s .padded .now) 11 11 _ _
+    (so-far1 (c .before .before .before)) (c .count-rows2 .ensures)
 
 abbrev sum3 : tie.After-count-rows3 → ℕ
 sum3 c = sum2 (c .before .before .before) + c .count-rows3 .result
@@ -125,7 +127,8 @@ unfolding nm
 count-rows-requires-3 c κs = nm-part 154 11 _ refl (omega arith) (c .before .before .before .before .before .before .before .before .before .pre)
 
 add-n-2 : tie.Need-add-n-2
-add-n-2 c = let s = c .before .before .before .before .before .before .before .before .before .before .args in omega (arith, so-far3 c, rows-few (s .mask) (s .padded .now) 33 nm)
+add-n-2 c = let s = c .before .before .before .before .before .before .before .before .before .before .args in omega
+    (arith, so-far3 c, rows-few (s .mask) (s .padded .now) 33 nm)
 
 sub-count-rows-4 : tie.Need-sub-count-rows-4
 sub-count-rows-4 c = search needs
@@ -138,7 +141,8 @@ part-count-rows-end-4 c = search needs
 
 count-rows-requires-4 : tie.Need-count-rows-requires-4
 unfolding nm
-count-rows-requires-4 c κs = nm-part 231 11 _ refl (omega arith) (c .before .before .before .before .before .before .before .before .before .before .before .before .pre)
+count-rows-requires-4 c κs = nm-part 231 11 _ refl (omega arith)
+    (c .before .before .before .before .before .before .before .before .before .before .before .before .pre)
 
 add-n-3 : tie.Need-add-n-3
 add-n-3 c = let s = c .before .before .before .before .before .before .before .before .before .before .before .before .before .args in omega
@@ -155,7 +159,8 @@ part-count-rows-end-5 c = search needs
 
 count-rows-requires-5 : tie.Need-count-rows-requires-5
 unfolding nm
-count-rows-requires-5 c κs = nm-part 308 11 _ refl (omega arith) (c .before .before .before .before .before .before .before .before .before .before .before .before .before .before .before .pre)
+count-rows-requires-5 c κs = nm-part 308 11 _ refl (omega arith)
+    (c .before .before .before .before .before .before .before .before .before .before .before .before .before .before .before .pre)
 
 add-n-4 : tie.Need-add-n-4
 add-n-4 c = let s = c .before .before .before .before .before .before .before .before .before .before .before .before .before .before .before .before .args

@@ -13,7 +13,8 @@ use Rattle.ldpc.proofs.fill.Statement.{statement}
 use Rattle.ldpc.proofs.fill.Tie as tie
 
 -- one byte more
-byte-more : (f : ℕ → ℕ) (w : List ℕ) (j v : ℕ) → j < length w → v ≡ f j → ((k : ℕ) → k < j → getD w k 0 ≡ f k) → (k : ℕ) → k < j + 1 → getD (set w j v) k 0 ≡ f k
+byte-more : (f : ℕ → ℕ) (w : List ℕ) (j v : ℕ) → j < length w → v ≡ f j → ((k : ℕ) → k < j → getD w k 0 ≡ f k) → (k : ℕ) → k < j + 1
+    → getD (set w j v) k 0 ≡ f k
 byte-more f w j v h e t =
     below-more _ j (λ k l. getD-set-other w j k v 0 (λ same. omega arith) ∙ t k l) (getD-set-same w j v 0 h ∙ e)
 

@@ -37,8 +37,12 @@ loop-again : tie.Need-loop-again Inv-loop μ-loop
 loop-again c =
     let l = c .before .before in
     let h = l .before .args .hard .now in
-    let size : 174 ≡ length h = sym (l .before .pre) in
-    (search needs, simp length-set (l .loop .inv .1), pad-more h (l .loop .padded) (l .loop .i) _ (omega arith) (omega (arith, l .loop .inv .1, size)) refl (l .loop .inv .2))
+    let size : 174 ≡ length h = sym (l .before .pre) in (
+      search needs,
+      simp length-set (l .loop .inv .1),
+      pad-more h (l .loop .padded) (l .loop .i) _ (omega arith) (omega (arith, l .loop .inv .1, size)) refl
+          (l .loop .inv .2),
+    )
 
 returns : tie.Need-returns Inv-loop μ-loop
 returns c =

@@ -24,8 +24,10 @@ unfolding places0 sizeN room degree sizeM
 stair-first-requires c κs =
     let t = c .before .before in
     let s = t .before .before .before in
-    let e = t .if1 .taken in
-    (omega (arith, size-at _ 0 _ e (s .pre .1 .0)), (listed0 _ (room-at _ 0 _ e (s .pre .1 .1)), record { some = omega arith; fits = omega (arith, room-at _ 0 _ e (s .pre .1 .1)) }))
+    let e = t .if1 .taken in (
+      omega (arith, size-at _ 0 _ e (s .pre .1 .0)),
+      (listed0 _ (room-at _ 0 _ e (s .pre .1 .1)), record { some = omega arith; fits = omega (arith, room-at _ 0 _ e (s .pre .1 .1)) }),
+    )
 
 same-length : tie.Need-same-length
 same-length c = search needs
@@ -45,8 +47,10 @@ unfolding places1 sizeN room degree sizeM
 stair-first-requires-2 c κs =
     let t = c .before .before in
     let s = t .before .before .before .before in
-    let e = t .if2 .taken in
-    (omega (arith, size-at _ 1 _ e (s .pre .1 .0)), (listed1 _ (room-at _ 1 _ e (s .pre .1 .1)), record { some = omega arith; fits = omega (arith, room-at _ 1 _ e (s .pre .1 .1)) }))
+    let e = t .if2 .taken in (
+      omega (arith, size-at _ 1 _ e (s .pre .1 .0)),
+      (listed1 _ (room-at _ 1 _ e (s .pre .1 .1)), record { some = omega arith; fits = omega (arith, room-at _ 1 _ e (s .pre .1 .1)) }),
+    )
 
 same-length-2 : tie.Need-same-length-2
 same-length-2 c = search needs
@@ -66,8 +70,10 @@ unfolding places2 sizeN room degree sizeM
 stair-first-requires-3 c κs =
     let t = c .before .before in
     let s = t .before .before .before .before .before in
-    let e = t .if3 .taken in
-    (omega (arith, size-at _ 2 _ e (s .pre .1 .0)), (listed2 _ (room-at _ 2 _ e (s .pre .1 .1)), record { some = omega arith; fits = omega (arith, room-at _ 2 _ e (s .pre .1 .1)) }))
+    let e = t .if3 .taken in (
+      omega (arith, size-at _ 2 _ e (s .pre .1 .0)),
+      (listed2 _ (room-at _ 2 _ e (s .pre .1 .1)), record { some = omega arith; fits = omega (arith, room-at _ 2 _ e (s .pre .1 .1)) }),
+    )
 
 same-length-3 : tie.Need-same-length-3
 same-length-3 c = search needs

@@ -6,7 +6,8 @@ use Rattle.passes.proofs.stair_bits.Statement.{statement}
 use Rattle.passes.proofs.stair_bits.Tie as tie
 
 listed-bits-requires : tie.Need-listed-bits-requires
-listed-bits-requires c κs = let s = c .before .before .before .before .before .before in (omega (arith, s .pre .0), (omega (arith, s .pre .1 .0), s .pre .1 .1 .0))
+listed-bits-requires c κs = let s = c .before .before .before .before .before .before in
+    (omega (arith, s .pre .0), (omega (arith, s .pre .1 .0), s .pre .1 .1 .0))
 
 parity-bits-requires : tie.Need-parity-bits-requires
 parity-bits-requires c κs = search needs

@@ -36,7 +36,11 @@ loop-less : tie.Need-loop-less Inv-loop μ-loop
 loop-less c = search needs
 
 loop-again : tie.Need-loop-again Inv-loop μ-loop
-loop-again c = (omega arith, rw (c .turn-sign .ensures) (fold-more turnedBy _ _ _ _ (c .before .before .loop-test .taken) (c .before .before .before .loop .inv .1)))
+loop-again c = (
+  omega arith,
+  rw (c .turn-sign .ensures)
+      (fold-more turnedBy _ _ _ _ (c .before .before .loop-test .taken) (c .before .before .before .loop .inv .1)),
+)
 
 returns : tie.Need-returns Inv-loop μ-loop
 unfolding foldFrom

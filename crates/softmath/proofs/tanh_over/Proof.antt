@@ -14,7 +14,8 @@ use Rattle.softmath.proofs.tanh_over.Statement.{statement}
 use Rattle.softmath.proofs.tanh_over.Tie as tie
 
 abbrev Inv-loop : tie.InvT-loop
-Inv-loop divisor part₀ i₀ part i = (i ≤ length part) × (length part ≡ length part₀) × (take i part ++ map (λ m. tanh (m ⊘ divisor)) (drop i part) ≡ map (λ m. tanh (m ⊘ divisor)) part₀)
+Inv-loop divisor part₀ i₀ part i = (i ≤ length part) × (length part ≡ length part₀)
+    × (take i part ++ map (λ m. tanh (m ⊘ divisor)) (drop i part) ≡ map (λ m. tanh (m ⊘ divisor)) part₀)
 
 abbrev μ-loop : tie.MeasureT-loop
 μ-loop divisor part₀ i₀ part i = length part₀ - i
@@ -48,7 +49,8 @@ loop-again c =
     let turn = c .before .before in (
       simp length-set (omega arith),
       simp length-set (omega arith),
-      each-more (λ m. tanh (m ⊘ turn .before .before .before .args .divisor)) nan _ _ _ _ (turn .loop-test .taken) (c .fast-tanh .ensures) (turn .before .loop .inv .2),
+      each-more (λ m. tanh (m ⊘ turn .before .before .before .args .divisor)) nan _ _ _ _ (turn .loop-test .taken) (c .fast-tanh .ensures)
+          (turn .before .loop .inv .2),
     )
 
 same-length : tie.Need-same-length Inv-loop μ-loop

@@ -93,22 +93,26 @@ decide-requires : tie.Need-decide-requires Inv-loop μ-loop
 decide-requires c κs = search needs
 
 slice-write-hard : tie.Need-slice-write-hard Inv-loop μ-loop
-slice-write-hard c = let t = c .before .before .before .before .before .before .before .before in omega (arith, t .before .loop .inv .3, start (t .before) .pre .1 .0, t .loop-test .taken)
+slice-write-hard c = let t = c .before .before .before .before .before .before .before .before in omega
+    (arith, t .before .loop .inv .3, start (t .before) .pre .1 .0, t .loop-test .taken)
 
 new-message-requires : tie.Need-new-message-requires Inv-loop μ-loop
 new-message-requires c κs = search needs
 
 mul-messages : tie.Need-mul-messages Inv-loop μ-loop
-mul-messages c = let t = c .before .before .before .before .before .before .before .before .before in omega (arith, place t (t .before .loop .a) (omega (arith, room t)))
+mul-messages c = let t = c .before .before .before .before .before .before .before .before .before in omega
+    (arith, place t (t .before .loop .a) (omega (arith, room t)))
 
 slice-write-messages : tie.Need-slice-write-messages Inv-loop μ-loop
-slice-write-messages c = let t = c .before .before .before .before .before .before .before .before .before in place t (t .before .loop .a) (omega (arith, room t))
+slice-write-messages c = let t = c .before .before .before .before .before .before .before .before .before in place t (t .before .loop .a)
+    (omega (arith, room t))
 
 new-message-requires-2 : tie.Need-new-message-requires-2 Inv-loop μ-loop
 new-message-requires-2 c κs = search needs
 
 mul-messages-2 : tie.Need-mul-messages-2 Inv-loop μ-loop
-mul-messages-2 c = let t = c .before .before .before .before .before .before .before .before .before .before in omega (arith, place t (t .before .loop .a + 1) (omega (arith, room t)))
+mul-messages-2 c = let t = c .before .before .before .before .before .before .before .before .before .before in omega
+    (arith, place t (t .before .loop .a + 1) (omega (arith, room t)))
 
 slice-write-messages-2 : tie.Need-slice-write-messages-2 Inv-loop μ-loop
 slice-write-messages-2 c =
@@ -119,7 +123,8 @@ new-message-requires-3 : tie.Need-new-message-requires-3 Inv-loop μ-loop
 new-message-requires-3 c κs = search needs
 
 mul-messages-3 : tie.Need-mul-messages-3 Inv-loop μ-loop
-mul-messages-3 c = let t = c .before .before .before .before .before .before .before .before .before .before .before in omega (arith, place t (t .before .loop .a + 2) (omega (arith, room t)))
+mul-messages-3 c = let t = c .before .before .before .before .before .before .before .before .before .before .before in omega
+    (arith, place t (t .before .loop .a + 2) (omega (arith, room t)))
 
 slice-write-messages-3 : tie.Need-slice-write-messages-3 Inv-loop μ-loop
 slice-write-messages-3 c =
@@ -147,7 +152,8 @@ loop-again c =
       omega (arith, l .loop .inv .1),
       simp length-set (l .loop .inv .2),
       simp length-set (l .loop .inv .3),
-      listed-more _ _ _ (l .loop .b) (l .loop .a) (l .loop .inv .1) (room t) _ _ _ _ _ _ _ (l .loop .inv .4) (bit .decide .ensures) (first .new-message .ensures)
+      listed-more _ _ _ (l .loop .b) (l .loop .a) (l .loop .inv .1) (room t) _ _ _ _ _ _ _ (l .loop .inv .4) (bit .decide .ensures)
+          (first .new-message .ensures)
           (second .new-message2 .ensures) (c .new-message3 .ensures),
     )
 

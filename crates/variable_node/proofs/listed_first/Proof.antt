@@ -10,7 +10,8 @@ use Rattle.variable_node.proofs.listed_first.Statement.{statement}
 use Rattle.variable_node.proofs.listed_first.Tie as tie
 
 abbrev Inv-loop : tie.InvT-loop
-Inv-loop n llr table messages₀ a₀ b₀ messages a b = (b ≤ n) × (a ≡ b * 3) × (length messages ≡ length messages₀) × (messages ≡ turns (threeFirst llr table) b messages₀)
+Inv-loop n llr table messages₀ a₀ b₀ messages a b = (b ≤ n) × (a ≡ b * 3) × (length messages ≡ length messages₀)
+    × (messages ≡ turns (threeFirst llr table) b messages₀)
 
 abbrev μ-loop : tie.MeasureT-loop
 μ-loop n llr table messages₀ a₀ b₀ messages a b = n - b

@@ -10,7 +10,8 @@ use Rattle.variable_node.proofs.paired_first.Statement.{statement}
 use Rattle.variable_node.proofs.paired_first.Tie as tie
 
 abbrev Inv-loop : tie.InvT-loop
-Inv-loop k m from llr messages₀ next i₀ messages i = (i + 1 ≤ m) × (length messages ≡ length messages₀) × (messages ≡ turns (parityFirst llr k m from) i messages₀)
+Inv-loop k m from llr messages₀ next i₀ messages i = (i + 1 ≤ m) × (length messages ≡ length messages₀)
+    × (messages ≡ turns (parityFirst llr k m from) i messages₀)
 
 abbrev μ-loop : tie.MeasureT-loop
 μ-loop k m from llr messages₀ next i₀ messages i = m - i
