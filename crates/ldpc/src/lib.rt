@@ -214,6 +214,14 @@ fn first_row(table: &[u8], padded: &[u8], mask: u8) -> FirstCheck
     FirstCheck::Satisfied
 }
 
+// The same over `NM`, which a function of its own names: a constant is laid where the function that names it starts.
+fn first_word(padded: &[u8], mask: u8) -> FirstCheck
+    requires { ⌜ length (now padded) ≡ 175 ⌝ }
+    ensures { λ r. ⌜ firstOf r ≡ firstMasked mask (sevens 83 nm) (now (padded .entry)) ⌝ }
+{
+    first_row(&tables::NM, padded, mask)
+}
+
 // What the mask counts of a word, and the first check that it counts. The word has a byte 0 before it, which an entry 0 of `NM` reads.
 pub fn counted(padded: &[u8], mask: u8) -> Counted
     requires { ⌜ length (now padded) ≡ 175 ⌝ }
@@ -227,7 +235,7 @@ pub fn counted(padded: &[u8], mask: u8) -> Counted
             first: FirstCheck::Satisfied,
         };
     }
-    let first = first_row(&tables::NM, padded, mask);
+    let first = first_word(padded, mask);
     Counted { count, first }
 }
 
@@ -254,17 +262,13 @@ pub fn count_low(hard: &[u8]) -> u16
     count_word(&padded, 1)
 }
 
-// The first of them, of a word whose count is known: the scan is spared where the count is 0.
-pub fn first_low(count: u16, hard: &[u8]) -> FirstCheck
+// The first of them.
+pub fn first_low(hard: &[u8]) -> FirstCheck
     requires { ⌜ length (now hard) ≡ 174 ⌝ }
-    requires { ⌜ count ≡ countMasked 1 checks (now hard) ⌝ }
     ensures { λ r. ⌜ firstOf r ≡ firstMasked 1 checks (now (hard .entry)) ⌝ }
 {
-    if count == 0 {
-        return FirstCheck::Satisfied;
-    }
     let padded = padded_word(hard);
-    first_row(&tables::NM, &padded, 1)
+    first_word(&padded, 1)
 }
 
 // How many checks have bytes whose XOR is not zero, and the first of them.

@@ -6,7 +6,6 @@ use Prim.Native.Nat.{ℕ, zero, suc, _+_, _*_, _<_}
 use native.Mathlib.Omega.{arith}
 use Rattle.construction.specs.Codes.{Code, n512r12, n576r23, n512r34}
 use Rattle.tanner.specs.Checks.{Checks}
-use Rattle.tanner.specs.Masked.{countMasked}
 use Rattle.tanner.specs.Flat.{Below}
 use Rattle.slots.specs.Layout.{Slotted, slotEdges, padPlaces, threeAt}
 use Rattle.staircase.specs.Codes.{checks}
@@ -110,7 +109,3 @@ room-at code i n e h = rw e at h
 
 pub last-code : (code : ℕ) → code < 4 → (code ≡ 0 → ⊥) → (code ≡ 1 → ⊥) → (code ≡ 2 → ⊥) → code ≡ 3
 last-code code l a b c = omega arith
-
-pub count-at : (code i count : ℕ) (cs : Checks) (word : List ℕ) → code ≡ i → cs ≡ checksBy i → count ≡ countMasked 1 (checksBy code) word
-    → count ≡ countMasked 1 cs word
-count-at code i count cs word e t h = h ∙ ap (λ (k : ℕ). countMasked 1 (checksBy k) word) e ∙ ap (λ (x : Checks). countMasked 1 x word) (sym t)

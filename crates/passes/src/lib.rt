@@ -1,4 +1,5 @@
 // The passes of a round at each of the four codes: the one place that names a code's tables and sizes, as numbers that the compiler sees.
+// A function a code names its table, since a constant is laid where the function that names it starts.
 ghost use mathlib.Core.Path.{_≡_};
 ghost use Prim.Native.Nat.{_+_, _<_, _≤_};
 ghost use lib.ListN.{length};
@@ -63,6 +64,43 @@ fn stair_first(k: usize, m: usize, from: usize, table: &[u16], llr: &[f32], mess
     variable_node::parity_first(k, m, from, llr, messages);
 }
 
+// Each code's.
+fn first_n512r12(llr: &[f32], messages: &mut [f32])
+    requires { ⌜ length (now llr) ≡ sizeN 0 ⌝ }
+    requires { ⌜ length (now messages) ≡ room 0 ⌝ }
+    ensures { λ _. ⌜ now (messages .exit)
+        ≡ turns (slotFirst (checksBy 0) (sizeM 0) (now (llr .entry))) (sizeN 0) (now (messages .entry)) ⌝ }
+{
+    stair_first(256, 256, 768, &N512R12_EDGES, llr, messages)
+}
+
+fn first_n576r23(llr: &[f32], messages: &mut [f32])
+    requires { ⌜ length (now llr) ≡ sizeN 1 ⌝ }
+    requires { ⌜ length (now messages) ≡ room 1 ⌝ }
+    ensures { λ _. ⌜ now (messages .exit)
+        ≡ turns (slotFirst (checksBy 1) (sizeM 1) (now (llr .entry))) (sizeN 1) (now (messages .entry)) ⌝ }
+{
+    stair_first(384, 192, 1152, &N576R23_EDGES, llr, messages)
+}
+
+fn first_n512r34(llr: &[f32], messages: &mut [f32])
+    requires { ⌜ length (now llr) ≡ sizeN 2 ⌝ }
+    requires { ⌜ length (now messages) ≡ room 2 ⌝ }
+    ensures { λ _. ⌜ now (messages .exit)
+        ≡ turns (slotFirst (checksBy 2) (sizeM 2) (now (llr .entry))) (sizeN 2) (now (messages .entry)) ⌝ }
+{
+    stair_first(384, 128, 1152, &N512R34_EDGES, llr, messages)
+}
+
+fn first_ft8(llr: &[f32], messages: &mut [f32])
+    requires { ⌜ length (now llr) ≡ sizeN 3 ⌝ }
+    requires { ⌜ length (now messages) ≡ room 3 ⌝ }
+    ensures { λ _. ⌜ now (messages .exit)
+        ≡ turns (slotFirst (checksBy 3) (sizeM 3) (now (llr .entry))) (sizeN 3) (now (messages .entry)) ⌝ }
+{
+    variable_node::listed_first(174, llr, &EDGES, messages)
+}
+
 // Each position's channel value at its places.
 pub fn first_messages(code: u32, llr: &[f32], messages: &mut [f32])
     requires { ⌜ code < 4 ⌝ }
@@ -72,15 +110,15 @@ pub fn first_messages(code: u32, llr: &[f32], messages: &mut [f32])
         ≡ turns (slotFirst (checksBy code) (sizeM code) (now (llr .entry))) (sizeN code) (now (messages .entry)) ⌝ }
 {
     if code == 0 {
-        return stair_first(256, 256, 768, &N512R12_EDGES, llr, messages);
+        return first_n512r12(llr, messages);
     }
     if code == 1 {
-        return stair_first(384, 192, 1152, &N576R23_EDGES, llr, messages);
+        return first_n576r23(llr, messages);
     }
     if code == 2 {
-        return stair_first(384, 128, 1152, &N512R34_EDGES, llr, messages);
+        return first_n512r34(llr, messages);
     }
-    variable_node::listed_first(174, llr, &EDGES, messages)
+    first_ft8(llr, messages)
 }
 
 // ---- the check step
@@ -127,6 +165,51 @@ fn stair_bits(
     variable_node::parity_bits(k, m, from, llr, messages, hard);
 }
 
+// Each code's.
+fn bits_n512r12(llr: &[f32], messages: &mut [f32], hard: &mut [u8])
+    requires { ⌜ length (now llr) ≡ sizeN 0 ⌝ }
+    requires { ⌜ length (now messages) ≡ room 0 ⌝ }
+    requires { ⌜ length (now hard) ≡ sizeN 0 ⌝ }
+    ensures { λ _. ⌜ passOf (now (hard .exit)) (now (messages .exit))
+        ≡ turns (slotTurn (checksBy 0) (sizeM 0) (kindBy 0) (now (llr .entry))) (sizeN 0)
+        (passOf (now (hard .entry)) (now (messages .entry))) ⌝ }
+{
+    stair_bits(256, 256, 768, &N512R12_EDGES, llr, messages, hard)
+}
+
+fn bits_n576r23(llr: &[f32], messages: &mut [f32], hard: &mut [u8])
+    requires { ⌜ length (now llr) ≡ sizeN 1 ⌝ }
+    requires { ⌜ length (now messages) ≡ room 1 ⌝ }
+    requires { ⌜ length (now hard) ≡ sizeN 1 ⌝ }
+    ensures { λ _. ⌜ passOf (now (hard .exit)) (now (messages .exit))
+        ≡ turns (slotTurn (checksBy 1) (sizeM 1) (kindBy 1) (now (llr .entry))) (sizeN 1)
+        (passOf (now (hard .entry)) (now (messages .entry))) ⌝ }
+{
+    stair_bits(384, 192, 1152, &N576R23_EDGES, llr, messages, hard)
+}
+
+fn bits_n512r34(llr: &[f32], messages: &mut [f32], hard: &mut [u8])
+    requires { ⌜ length (now llr) ≡ sizeN 2 ⌝ }
+    requires { ⌜ length (now messages) ≡ room 2 ⌝ }
+    requires { ⌜ length (now hard) ≡ sizeN 2 ⌝ }
+    ensures { λ _. ⌜ passOf (now (hard .exit)) (now (messages .exit))
+        ≡ turns (slotTurn (checksBy 2) (sizeM 2) (kindBy 2) (now (llr .entry))) (sizeN 2)
+        (passOf (now (hard .entry)) (now (messages .entry))) ⌝ }
+{
+    stair_bits(384, 128, 1152, &N512R34_EDGES, llr, messages, hard)
+}
+
+fn bits_ft8(llr: &[f32], messages: &mut [f32], hard: &mut [u8])
+    requires { ⌜ length (now llr) ≡ sizeN 3 ⌝ }
+    requires { ⌜ length (now messages) ≡ room 3 ⌝ }
+    requires { ⌜ length (now hard) ≡ sizeN 3 ⌝ }
+    ensures { λ _. ⌜ passOf (now (hard .exit)) (now (messages .exit))
+        ≡ turns (slotTurn (checksBy 3) (sizeM 3) (kindBy 3) (now (llr .entry))) (sizeN 3)
+        (passOf (now (hard .entry)) (now (messages .entry))) ⌝ }
+{
+    variable_node::listed_bits(SumKind::Others, 174, llr, &EDGES, messages, hard)
+}
+
 // Each position's decision, and its new messages in place of its answers.
 pub fn bit_pass(code: u32, llr: &[f32], messages: &mut [f32], hard: &mut [u8])
     requires { ⌜ code < 4 ⌝ }
@@ -138,18 +221,40 @@ pub fn bit_pass(code: u32, llr: &[f32], messages: &mut [f32], hard: &mut [u8])
         (passOf (now (hard .entry)) (now (messages .entry))) ⌝ }
 {
     if code == 0 {
-        return stair_bits(256, 256, 768, &N512R12_EDGES, llr, messages, hard);
+        return bits_n512r12(llr, messages, hard);
     }
     if code == 1 {
-        return stair_bits(384, 192, 1152, &N576R23_EDGES, llr, messages, hard);
+        return bits_n576r23(llr, messages, hard);
     }
     if code == 2 {
-        return stair_bits(384, 128, 1152, &N512R34_EDGES, llr, messages, hard);
+        return bits_n512r34(llr, messages, hard);
     }
-    variable_node::listed_bits(SumKind::Others, 174, llr, &EDGES, messages, hard)
+    bits_ft8(llr, messages, hard)
 }
 
 // ---- the count
+
+// Each staircase code's.
+fn count_n512r12(hard: &[u8]) -> u16
+    requires { ⌜ length (now hard) ≡ sizeN 0 ⌝ }
+    ensures { λ r. ⌜ r ≡ countMasked 1 (checksBy 0) (now (hard .entry)) ⌝ }
+{
+    stairs::count(3, 256, 256, &N512R12_TAPS, hard)
+}
+
+fn count_n576r23(hard: &[u8]) -> u16
+    requires { ⌜ length (now hard) ≡ sizeN 1 ⌝ }
+    ensures { λ r. ⌜ r ≡ countMasked 1 (checksBy 1) (now (hard .entry)) ⌝ }
+{
+    stairs::count(6, 384, 192, &N576R23_TAPS, hard)
+}
+
+fn count_n512r34(hard: &[u8]) -> u16
+    requires { ⌜ length (now hard) ≡ sizeN 2 ⌝ }
+    ensures { λ r. ⌜ r ≡ countMasked 1 (checksBy 2) (now (hard .entry)) ⌝ }
+{
+    stairs::count(9, 384, 128, &N512R34_TAPS, hard)
+}
 
 // How many checks the low bits of a word leave unsatisfied.
 pub fn count(code: u32, hard: &[u8]) -> u16
@@ -158,32 +263,57 @@ pub fn count(code: u32, hard: &[u8]) -> u16
     ensures { λ r. ⌜ r ≡ countMasked 1 (checksBy code) (now (hard .entry)) ⌝ }
 {
     if code == 0 {
-        return stairs::count(3, 256, 256, &N512R12_TAPS, hard);
+        return count_n512r12(hard);
     }
     if code == 1 {
-        return stairs::count(6, 384, 192, &N576R23_TAPS, hard);
+        return count_n576r23(hard);
     }
     if code == 2 {
-        return stairs::count(9, 384, 128, &N512R34_TAPS, hard);
+        return count_n512r34(hard);
     }
     ldpc::count_low(hard)
 }
 
-// The first of them, of a word whose count is known.
+// The first row of each staircase code.
+fn row_n512r12(hard: &[u8]) -> FirstCheck
+    requires { ⌜ length (now hard) ≡ sizeN 0 ⌝ }
+    ensures { λ r. ⌜ firstOf r ≡ firstMasked 1 (checksBy 0) (now (hard .entry)) ⌝ }
+{
+    stairs::first_row(3, 256, 256, &N512R12_TAPS, hard)
+}
+
+fn row_n576r23(hard: &[u8]) -> FirstCheck
+    requires { ⌜ length (now hard) ≡ sizeN 1 ⌝ }
+    ensures { λ r. ⌜ firstOf r ≡ firstMasked 1 (checksBy 1) (now (hard .entry)) ⌝ }
+{
+    stairs::first_row(6, 384, 192, &N576R23_TAPS, hard)
+}
+
+fn row_n512r34(hard: &[u8]) -> FirstCheck
+    requires { ⌜ length (now hard) ≡ sizeN 2 ⌝ }
+    ensures { λ r. ⌜ firstOf r ≡ firstMasked 1 (checksBy 2) (now (hard .entry)) ⌝ }
+{
+    stairs::first_row(9, 384, 128, &N512R34_TAPS, hard)
+}
+
+// The first of them, of a word whose count is known: the scan is spared where the count is 0.
 pub fn first_counted(code: u32, count: u16, hard: &[u8]) -> FirstCheck
     requires { ⌜ code < 4 ⌝ }
     requires { ⌜ length (now hard) ≡ sizeN code ⌝ }
     requires { ⌜ count ≡ countMasked 1 (checksBy code) (now hard) ⌝ }
     ensures { λ r. ⌜ firstOf r ≡ firstMasked 1 (checksBy code) (now (hard .entry)) ⌝ }
 {
+    if count == 0 {
+        return FirstCheck::Satisfied;
+    }
     if code == 0 {
-        return stairs::first_counted(count, 3, 256, 256, &N512R12_TAPS, hard);
+        return row_n512r12(hard);
     }
     if code == 1 {
-        return stairs::first_counted(count, 6, 384, 192, &N576R23_TAPS, hard);
+        return row_n576r23(hard);
     }
     if code == 2 {
-        return stairs::first_counted(count, 9, 384, 128, &N512R34_TAPS, hard);
+        return row_n512r34(hard);
     }
-    ldpc::first_low(count, hard)
+    ldpc::first_low(hard)
 }

@@ -50,7 +50,7 @@ pub fn count(width: usize, k: usize, m: usize, taps: &[u16], bytes: &[u8]) -> u1
 }
 
 // The first row that the low bits leave unsatisfied: the scan ends there.
-fn first_row(width: usize, k: usize, m: usize, taps: &[u16], bytes: &[u8]) -> FirstCheck
+pub fn first_row(width: usize, k: usize, m: usize, taps: &[u16], bytes: &[u8]) -> FirstCheck
     requires { ⌜ Stairs k width m (length (now bytes)) (now taps) ⌝ }
     ensures { λ r. ⌜ firstOf r ≡ firstMasked 1 (stairs k width m (now (taps .entry))) (now (bytes .entry)) ⌝ }
 {
@@ -71,32 +71,19 @@ fn first_row(width: usize, k: usize, m: usize, taps: &[u16], bytes: &[u8]) -> Fi
     FirstCheck::Satisfied
 }
 
-// The same of a word whose count is known: the scan is spared where the count is 0.
-pub fn first_counted(
-    count: u16,
-    width: usize,
-    k: usize,
-    m: usize,
-    taps: &[u16],
-    bytes: &[u8],
-) -> FirstCheck
-    requires { ⌜ Stairs k width m (length (now bytes)) (now taps) ⌝ }
-    requires { ⌜ count ≡ countMasked 1 (stairs k width m (now taps)) (now bytes) ⌝ }
-    ensures { λ r. ⌜ firstOf r ≡ firstMasked 1 (stairs k width m (now (taps .entry))) (now (bytes .entry)) ⌝ }
-{
-    if count == 0 {
-        return FirstCheck::Satisfied;
-    }
-    first_row(width, k, m, taps, bytes)
-}
-
-// The count, and the first row that it includes.
+// The count, and the first row that it includes: the scan is spared where the count is 0.
 pub fn counted(width: usize, k: usize, m: usize, taps: &[u16], bytes: &[u8]) -> Counted
     requires { ⌜ Stairs k width m (length (now bytes)) (now taps) ⌝ }
     ensures { λ r. ⌜ syndromeOf r ≡ syndromeMasked 1 (stairs k width m (now (taps .entry))) (now (bytes .entry)) ⌝ }
 {
     let count = count(width, k, m, taps, bytes);
-    let first = first_counted(count, width, k, m, taps, bytes);
+    if count == 0 {
+        return Counted {
+            count,
+            first: FirstCheck::Satisfied,
+        };
+    }
+    let first = first_row(width, k, m, taps, bytes);
     Counted { count, first }
 }
 

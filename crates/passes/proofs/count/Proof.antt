@@ -1,89 +1,49 @@
--- `passes::count` meets its contract, code by code: the table holds the code's rows. Assumes nothing.
-use mathlib.Core.Path.{refl}
-use native.Mathlib.Omega.{arith}
-use Rattle.staircase.proofs.N512R12.{taps0, taps-right0}
-use Rattle.staircase.proofs.N576R23.{taps1, taps-right1}
-use Rattle.staircase.proofs.N512R34.{taps2, taps-right2}
-use Rattle.stairs.proofs.Codes.{stairs0, stairs1, stairs2}
+-- `passes::count` meets its contract: the code that has the number. Assumes nothing.
+use mathlib.Core.Path.{_≡_}
 use Rattle.passes.specs.Codes.{sizeN, checksBy}
 use Rattle.passes.proofs.Tables.{size-at, last-code}
 use Rattle.passes.proofs.count.Statement.{statement}
 use Rattle.passes.proofs.count.Tie as tie
 
-slice-aggregate-count : tie.Need-slice-aggregate-count
-unfolding taps0
-slice-aggregate-count c = refl
-
-count-requires : tie.Need-count-requires
-unfolding taps0 sizeN
-count-requires c κs =
-    let t = c .before in
-    let s = t .before .before in
-    let e = t .if1 .taken in
-    stairs0 _ (omega (arith, size-at _ 0 _ e (s .pre .1)))
+count-n512r12-requires : tie.Need-count-n512r12-requires
+count-n512r12-requires c κs = size-at _ 0 _ (c .if1 .taken) (c .before .before .pre .1)
 
 returns : tie.Need-returns
-unfolding taps0 checksBy
-returns c = rw (c .before .before .if1 .taken, ← taps-right0) (c .count .ensures)
+returns c = rw (c .before .if1 .taken) (c .count-n512r12 .ensures)
 
-slice-aggregate-count-2 : tie.Need-slice-aggregate-count-2
-unfolding taps1
-slice-aggregate-count-2 c = refl
-
-count-requires-2 : tie.Need-count-requires-2
-unfolding taps1 sizeN
-count-requires-2 c κs =
-    let t = c .before in
-    let s = t .before .before .before in
-    let e = t .if2 .taken in
-    stairs1 _ (omega (arith, size-at _ 1 _ e (s .pre .1)))
+count-n576r23-requires : tie.Need-count-n576r23-requires
+count-n576r23-requires c κs = size-at _ 1 _ (c .if2 .taken) (c .before .before .before .pre .1)
 
 returns-2 : tie.Need-returns-2
-unfolding taps1 checksBy
-returns-2 c = rw (c .before .before .if2 .taken, ← taps-right1) (c .count2 .ensures)
+returns-2 c = rw (c .before .if2 .taken) (c .count-n576r23 .ensures)
 
-slice-aggregate-count-3 : tie.Need-slice-aggregate-count-3
-unfolding taps2
-slice-aggregate-count-3 c = refl
-
-count-requires-3 : tie.Need-count-requires-3
-unfolding taps2 sizeN
-count-requires-3 c κs =
-    let t = c .before in
-    let s = t .before .before .before .before in
-    let e = t .if3 .taken in
-    stairs2 _ (omega (arith, size-at _ 2 _ e (s .pre .1)))
+count-n512r34-requires : tie.Need-count-n512r34-requires
+count-n512r34-requires c κs = size-at _ 2 _ (c .if3 .taken) (c .before .before .before .before .pre .1)
 
 returns-3 : tie.Need-returns-3
-unfolding taps2 checksBy
-returns-3 c = rw (c .before .before .if3 .taken, ← taps-right2) (c .count3 .ensures)
+returns-3 c = rw (c .before .if3 .taken) (c .count-n512r34 .ensures)
+
+-- the last
+last : (c : tie.Else3) → c .before .before .before .before .args .code ≡ 3
+last c = last-code _ (c .before .before .before .before .pre .0) (c .before .before .if1 .left) (c .before .if2 .left) (c .if3 .left)
 
 count-low-requires : tie.Need-count-low-requires
 unfolding sizeN
-count-low-requires c κs =
-    let s = c .before .before .before .before in
-    let e = last-code _ (s .pre .0) (c .before .before .if1 .left) (c .before .if2 .left) (c .if3 .left) in
-    size-at _ 3 _ e (s .pre .1)
+count-low-requires c κs = size-at _ 3 _ (last c) (c .before .before .before .before .pre .1)
 
 returns-4 : tie.Need-returns-4
 unfolding checksBy
-returns-4 c =
-    let t = c .before in
-    let s = t .before .before .before .before in
-    rw (last-code _ (s .pre .0) (t .before .before .if1 .left) (t .before .if2 .left) (t .if3 .left)) (c .count-low .ensures)
+returns-4 c = rw (last (c .before)) (c .count-low .ensures)
 
 pub count-spec : {M : Type 1} → statement M
 count-spec =
     tie.close
     (tie.spec
-    slice-aggregate-count
-    count-requires
+    count-n512r12-requires
     returns
-    slice-aggregate-count-2
-    count-requires-2
+    count-n576r23-requires
     returns-2
-    slice-aggregate-count-3
-    count-requires-3
+    count-n512r34-requires
     returns-3
     count-low-requires
     returns-4)

@@ -1,89 +1,54 @@
--- `passes::first_counted` meets its contract, code by code: the table holds the code's rows. Assumes nothing.
-use mathlib.Core.Path.{refl}
-use native.Mathlib.Omega.{arith}
-use Rattle.staircase.proofs.N512R12.{taps0, taps-right0}
-use Rattle.staircase.proofs.N576R23.{taps1, taps-right1}
-use Rattle.staircase.proofs.N512R34.{taps2, taps-right2}
-use Rattle.stairs.proofs.Codes.{stairs0, stairs1, stairs2}
+-- `passes::first_counted` meets its contract: none where the count is 0, else the code that has the number. Assumes nothing.
+use mathlib.Core.Path.{_≡_, sym, _∙_}
+use Rattle.tanner.proofs.First.{zero-none, masked-adds}
 use Rattle.passes.specs.Codes.{sizeN, checksBy}
-use Rattle.passes.proofs.Tables.{size-at, last-code, count-at}
+use Rattle.passes.proofs.Tables.{size-at, last-code}
 use Rattle.passes.proofs.first_counted.Statement.{statement}
 use Rattle.passes.proofs.first_counted.Tie as tie
 
-slice-aggregate-first-counted : tie.Need-slice-aggregate-first-counted
-unfolding taps0
-slice-aggregate-first-counted c = refl
-
-first-counted-requires : tie.Need-first-counted-requires
-unfolding taps0 sizeN checksBy
-first-counted-requires c κs =
-    let t = c .before in
-    let s = t .before .before in
-    let e = t .if1 .taken in
-    (stairs0 _ (omega (arith, size-at _ 0 _ e (s .pre .1 .0))), count-at _ 0 _ _ _ e taps-right0 (s .pre .1 .1))
-
 returns : tie.Need-returns
-unfolding taps0 checksBy
-returns c = rw (c .before .before .if1 .taken, ← taps-right0) (c .first-counted .ensures)
+returns c = sym (zero-none _ _ (masked-adds _ _) 0 _ (sym (c .before .before .pre .1 .1) ∙ c .if1 .taken))
 
-slice-aggregate-first-counted-2 : tie.Need-slice-aggregate-first-counted-2
-unfolding taps1
-slice-aggregate-first-counted-2 c = refl
-
-first-counted-requires-2 : tie.Need-first-counted-requires-2
-unfolding taps1 sizeN checksBy
-first-counted-requires-2 c κs =
-    let t = c .before in
-    let s = t .before .before .before in
-    let e = t .if2 .taken in
-    (stairs1 _ (omega (arith, size-at _ 1 _ e (s .pre .1 .0))), count-at _ 1 _ _ _ e taps-right1 (s .pre .1 .1))
+row-n512r12-requires : tie.Need-row-n512r12-requires
+row-n512r12-requires c κs = size-at _ 0 _ (c .if2 .taken) (c .before .before .before .pre .1 .0)
 
 returns-2 : tie.Need-returns-2
-unfolding taps1 checksBy
-returns-2 c = rw (c .before .before .if2 .taken, ← taps-right1) (c .first-counted2 .ensures)
+returns-2 c = rw (c .before .if2 .taken) (c .row-n512r12 .ensures)
 
-slice-aggregate-first-counted-3 : tie.Need-slice-aggregate-first-counted-3
-unfolding taps2
-slice-aggregate-first-counted-3 c = refl
-
-first-counted-requires-3 : tie.Need-first-counted-requires-3
-unfolding taps2 sizeN checksBy
-first-counted-requires-3 c κs =
-    let t = c .before in
-    let s = t .before .before .before .before in
-    let e = t .if3 .taken in
-    (stairs2 _ (omega (arith, size-at _ 2 _ e (s .pre .1 .0))), count-at _ 2 _ _ _ e taps-right2 (s .pre .1 .1))
+row-n576r23-requires : tie.Need-row-n576r23-requires
+row-n576r23-requires c κs = size-at _ 1 _ (c .if3 .taken) (c .before .before .before .before .pre .1 .0)
 
 returns-3 : tie.Need-returns-3
-unfolding taps2 checksBy
-returns-3 c = rw (c .before .before .if3 .taken, ← taps-right2) (c .first-counted3 .ensures)
+returns-3 c = rw (c .before .if3 .taken) (c .row-n576r23 .ensures)
 
-first-low-requires : tie.Need-first-low-requires
-unfolding sizeN checksBy
-first-low-requires c κs =
-    let s = c .before .before .before .before in
-    let e = last-code _ (s .pre .0) (c .before .before .if1 .left) (c .before .if2 .left) (c .if3 .left) in
-    (size-at _ 3 _ e (s .pre .1 .0), count-at _ 3 _ _ _ e refl (s .pre .1 .1))
+row-n512r34-requires : tie.Need-row-n512r34-requires
+row-n512r34-requires c κs = size-at _ 2 _ (c .if4 .taken) (c .before .before .before .before .before .pre .1 .0)
 
 returns-4 : tie.Need-returns-4
+returns-4 c = rw (c .before .if4 .taken) (c .row-n512r34 .ensures)
+
+-- the last
+last : (c : tie.Else4) → c .before .before .before .before .before .args .code ≡ 3
+last c = last-code _ (c .before .before .before .before .before .pre .0) (c .before .before .if2 .left) (c .before .if3 .left) (c .if4 .left)
+
+first-low-requires : tie.Need-first-low-requires
+unfolding sizeN
+first-low-requires c κs = size-at _ 3 _ (last c) (c .before .before .before .before .before .pre .1 .0)
+
+returns-5 : tie.Need-returns-5
 unfolding checksBy
-returns-4 c =
-    let t = c .before in
-    let s = t .before .before .before .before in
-    rw (last-code _ (s .pre .0) (t .before .before .if1 .left) (t .before .if2 .left) (t .if3 .left)) (c .first-low .ensures)
+returns-5 c = rw (last (c .before)) (c .first-low .ensures)
 
 pub first-counted-spec : {M : Type 1} → statement M
 first-counted-spec =
     tie.close
     (tie.spec
-    slice-aggregate-first-counted
-    first-counted-requires
     returns
-    slice-aggregate-first-counted-2
-    first-counted-requires-2
+    row-n512r12-requires
     returns-2
-    slice-aggregate-first-counted-3
-    first-counted-requires-3
+    row-n576r23-requires
     returns-3
+    row-n512r34-requires
+    returns-4
     first-low-requires
-    returns-4)
+    returns-5)

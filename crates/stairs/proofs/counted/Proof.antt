@@ -1,6 +1,6 @@
--- `stairs::counted` meets its contract: the count and the first row, put together. Assumes nothing.
-use mathlib.Core.Path.{ap₂}
-use Rattle.tanner.proofs.First.{both}
+-- `stairs::counted` meets its contract: the count and the first row, put together; no row is counted where the count is 0. Assumes nothing.
+use mathlib.Core.Path.{sym, ap₂, _∙_}
+use Rattle.tanner.proofs.First.{both, zero-none, masked-adds}
 use borrow.Author.Needs.{needs}
 use Rattle.stairs.proofs.counted.Statement.{statement}
 use Rattle.stairs.proofs.counted.Tie as tie
@@ -8,11 +8,16 @@ use Rattle.stairs.proofs.counted.Tie as tie
 count-requires : tie.Need-count-requires
 count-requires c κs = search needs
 
-first-counted-requires : tie.Need-first-counted-requires
-first-counted-requires c κs = search needs
-
 returns : tie.Need-returns
-returns c = ap₂ both (c .before .count .ensures) (c .first-counted .ensures)
+returns c =
+    let e = c .before .count .ensures in
+    ap₂ both e (sym (zero-none _ _ (masked-adds _ _) 0 _ (sym e ∙ c .if1 .taken)))
+
+first-row-requires : tie.Need-first-row-requires
+first-row-requires c κs = search needs
+
+returns-2 : tie.Need-returns-2
+returns-2 c = ap₂ both (c .before .before .count .ensures) (c .first-row .ensures)
 
 pub counted-spec : {M : Type 1} → statement M
-counted-spec = tie.close (tie.spec count-requires first-counted-requires returns)
+counted-spec = tie.close (tie.spec count-requires returns first-row-requires returns-2)
