@@ -6,15 +6,14 @@ use native.Mathlib.Nat.{mul-le-mul, suc-mul, zero-mul}
 use native.Mathlib.Numerals.{add-one}
 use native.Mathlib.Omega.{arith}
 use lib.Ieee.{Float}
-use lib.ListN.{length, getD, take, drop, set, length-set, length-append, length-map, length-drop, replicate, length-replicate, drop-of-length-le, List·getD-map}
-use lib.Seq.{take-at, drop-at, drop-drop, drop-cons, take-all, length-take-le}
+use lib.ListN.{length, getD, take, drop, set, length-set, length-append, length-map, length-drop, drop-of-length-le, List·getD-map}
+use lib.Seq.{take-at, drop-drop, drop-cons, take-all, length-take-le}
 use Rattle.softmath.specs.declared.DecodeRule.{DecodeRule}
 use Rattle.tanner.specs.Flat.{joined}
 use Rattle.belief.specs.Chosen.{Chose}
 use Rattle.belief.specs.Area.{cleared}
 use Rattle.belief.specs.Run.{decodeAt}
 use Rattle.belief.proofs.Fill.{fill-more, fill-done}
-use Rattle.softmath.specs.Single.{zero32}
 use Rattle.passes.specs.Codes.{checksBy, kindBy}
 use Rattle.decoders.specs.Decodes.{ruleOf}
 use Rattle.belief.specs.declared.Decoded.{Decoded}
@@ -161,22 +160,6 @@ bits-end f frames j front goal h e = sym (append-nil front) ∙ rw (drop-of-leng
 pub bits-whole : (bits goal : List ℕ) (at : ℕ) → length bits ≤ at → take at bits ≡ goal → bits ≡ goal
 bits-whole bits goal at h e = sym (take-all at bits h) ∙ e
 
--- a work area whose first 3,070 places were cleared
-pub front-cleared : (v part : List Float) → 3070 ≤ length v → part ≡ replicate (length (take 3070 v)) zero32 → part ++ drop 3070 v ≡ cleared v
-unfolding cleared
-front-cleared v part h e = rw (e, length-take-le 3070 v h)
-
-pub cleared-length : (v : List Float) → 3070 ≤ length v → length (cleared v) ≡ length v
-unfolding cleared
-cleared-length v h = simp (length-append, length-drop, length-replicate) (omega arith)
-
--- a work area cleared twice
-pub cleared-again : (v : List Float) → cleared (cleared v) ≡ cleared v
-unfolding cleared
-cleared-again v =
-    let z = replicate 3070 zero32 in
-    ap (λ (l : List Float). z ++ l) (drop-at z (drop 3070 v) 3070 (length-replicate 3070 zero32))
-
 -- the lent memory, part by part
 pub lent-are : {b c r f b' c' r' f' : List ℕ} {w w' : List Float} → b ≡ b' → c ≡ c' → r ≡ r' → f ≡ f' → w ≡ w' → lent b c r f w ≡ lent b' c' r' f' w'
 lent-are b c r f w = cc
@@ -227,26 +210,32 @@ module _ {b : Batch} (fit : Fitting b) where
         area = omega (arith, g .wide, fit .area);
       }
 
-      pub going-more : {l′ : Lent} → l′ ≡ placed (frameDecode b (own (b .values) (b .pairs) (sizeN (b .code)) j (fit .inside) h)) (b .limit) k j l
-          → length (l′ .bits) ≡ length (l .bits) → Going b (j + 1) l′
+      -- the lists stay as long as they were
+      pub going-more : {l′ : Lent} → lent (l′ .bits) (l′ .counts) (l′ .rounds) (l′ .firsts) (cleared (l′ .work))
+          ≡ placed (frameDecode b (own (b .values) (b .pairs) (sizeN (b .code)) j (fit .inside) h)) (b .limit) k j l
+          → length (l′ .bits) ≡ length (l .bits) → length (l′ .work) ≡ length (l .work) → Going b (j + 1) l′
       unfolding placed
-      going-more {l′} e same =
+      going-more {l′} e same wide =
           let f = own (b .values) (b .pairs) (sizeN (b .code)) j (fit .inside) h in
           let more = column-more (b .values) (b .pairs) (sizeN (b .code)) j (fit .inside) h in
-          subst (Going b (j + 1)) (sym e) (record {
+          let bits = ap (λ (x : Lent). x .bits) e in
+          record {
             upto = omega arith;
-            long = sym (ap (λ (x : Lent). length (x .bits)) e) ∙ same ∙ g .long;
+            long = same ∙ g .long;
             front =
                 let turn : (j + 1) * k ≡ j * k + k = rw add-one (suc-mul j k) in
-                rw turn
-                (written-more (l .bits) (frameBits b f) (j * k) k (going-fits .bits) (sym (ap (λ (x : Lent). length (x .bits)) e) ∙ same) _ _
+                rw (turn, bits)
+                (written-more (l .bits) (frameBits b f) (j * k) k (going-fits .bits) (sym (ap length bits) ∙ same) _ _
                 (rw (bits-next (b .values) (b .pairs) (sizeN (b .code)) j (fit .inside) h (frameBits b)) at (g .front)));
-            counts = more (frameCount b) (l .counts) (g .counts);
-            rounds = more (frameRounds b) (l .rounds) (g .rounds);
-            firsts = more (frameFirst b) (l .firsts) (g .firsts);
-            area = cleared-again (l .work) ∙ g .area;
-            wide = cleared-length (l .work) (going-fits .area) ∙ g .wide;
-          })
+            counts = subst (Column (frameCount b) (b .values) (b .pairs) (j + 1)) (sym (ap (λ (x : Lent). x .counts) e))
+                (more (frameCount b) (l .counts) (g .counts));
+            rounds = subst (Column (frameRounds b) (b .values) (b .pairs) (j + 1)) (sym (ap (λ (x : Lent). x .rounds) e))
+                (more (frameRounds b) (l .rounds) (g .rounds));
+            firsts = subst (Column (frameFirst b) (b .values) (b .pairs) (j + 1)) (sym (ap (λ (x : Lent). x .firsts) e))
+                (more (frameFirst b) (l .firsts) (g .firsts));
+            area = ap (λ (x : Lent). x .work) e ∙ g .area;
+            wide = wide ∙ g .wide;
+          }
 
     -- after the last frame, the work area cleared
     pub going-done : length (b .pairs) ≤ j → {work : List Float} → work ≡ cleared (l .work)

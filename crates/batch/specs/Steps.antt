@@ -54,7 +54,7 @@ pub record PlaceFits (code offset j : ℕ) (values : List Float) (l : Lent) : Ty
   pub firsts : j < length (l .firsts)
   pub area : 3070 ≤ length (l .work)
 
--- the memory once a frame of k message bits is decoded to place j
+-- the memory once a frame of k message bits is decoded to place j and the work area is cleared
 unfoldable pub placed : Decode → ℕ → ℕ → ℕ → Lent → Lent
 placed d limit k j l = record {
   bits = take (j * k) (l .bits) ++ (chosenBits d limit k ++ drop (j * k + k) (l .bits));

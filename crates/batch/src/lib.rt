@@ -175,7 +175,7 @@ pub fn batch_fault(code: u32, rule: u32, values: usize, pairs: &[u32], room: Roo
 
 // ---- decoding
 
-// One frame of any of the four codes: the chosen word's first bits, as many as `bits` has places.
+// One frame of any of the four codes: the chosen word's first bits, as many as `bits` has places. The work area is left to be cleared.
 pub fn decode_frame(
     code: u32,
     rule: u32,
@@ -190,10 +190,10 @@ pub fn decode_frame(
     requires { ⌜ length (now bits) ≤ sizeN code ⌝ }
     requires { ⌜ 3070 ≤ length (now work) ⌝ }
     ensures { λ r. ⌜ Chose (decodeOf code rule scale (now (llr .entry))) limit (length (now (bits .entry))) r (now (bits .exit)) ⌝ }
-    ensures { λ _. ⌜ now (work .exit) ≡ cleared (now (work .entry)) ⌝ }
+    ensures { λ _. ⌜ cleared (now (work .exit)) ≡ cleared (now (work .entry)) ⌝ }
 {
     let step = decoders::rule_of(code, rule, scale);
-    belief::decode(code, step, limit, llr, bits, work)
+    belief::decode_uncleared(code, step, limit, llr, bits, work)
 }
 
 // A first unsatisfied check as one number.
@@ -206,15 +206,7 @@ pub fn place_of(first: FirstCheck) -> u16
     }
 }
 
-// The part of the work area that an accepted call clears.
-pub fn clear_area(work: &mut [f32])
-    requires { ⌜ 3070 ≤ length (now work) ⌝ }
-    ensures { λ _. ⌜ now (work .exit) ≡ cleared (now (work .entry)) ⌝ }
-{
-    belief::clear(&mut work[..WORK]);
-}
-
-// One frame, the values from `offset` on: decoded to place j of each output.
+// One frame, the values from `offset` on: decoded to place j of each output. The work area is left to be cleared.
 pub fn decode_place(
     code: u32,
     rule: u32,
@@ -230,7 +222,7 @@ pub fn decode_place(
     work: &mut [f32],
 )
     requires { ⌜ PlaceFits code offset j (now values) (lent (now bits) (now counts) (now rounds) (now firsts) (now work)) ⌝ }
-    ensures { λ _. ⌜ lent (now (bits .exit)) (now (counts .exit)) (now (rounds .exit)) (now (firsts .exit)) (now (work .exit))
+    ensures { λ _. ⌜ lent (now (bits .exit)) (now (counts .exit)) (now (rounds .exit)) (now (firsts .exit)) (cleared (now (work .exit)))
         ≡ placed (decodeOf code rule scale (frameOf (now (values .entry)) (pair offset (sizeN code)))) limit (sizeK code) j
         (lent (now (bits .entry)) (now (counts .entry)) (now (rounds .entry)) (now (firsts .entry)) (now (work .entry))) ⌝ }
 {
@@ -292,7 +284,7 @@ fn decode_frames(
         );
         j += 1;
     }
-    clear_area(work);
+    belief::clear_area(work);
 }
 
 // The batch over flat slices: `pairs` has an offset and a length in turn.

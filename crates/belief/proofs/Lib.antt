@@ -1,4 +1,5 @@
 pub mod Words
+pub mod Area
 pub mod Fill
 pub mod BitWords
 pub mod Held

@@ -182,7 +182,7 @@ fn choose(
 }
 
 // Every place +0.0.
-pub fn clear(part: &mut [f32])
+fn clear(part: &mut [f32])
     ensures { λ _. ⌜ now (part .exit) ≡ replicate (length (now (part .entry))) zero32 ⌝ }
 {
     let mut i = 0;
@@ -192,8 +192,46 @@ pub fn clear(part: &mut [f32])
     }
 }
 
-// A frame's decode: the chosen word's first bits, as many as `bits` has places, and what is told of it. Document 01's work area: its first 3,070 places
-// are +0.0 afterwards, and the rest is unchanged.
+// The first 3,070 places of a work area +0.0.
+pub fn clear_area(work: &mut [f32])
+    requires { ⌜ 3070 ≤ length (now work) ⌝ }
+    ensures { λ _. ⌜ now (work .exit) ≡ cleared (now (work .entry)) ⌝ }
+{
+    clear(&mut work[..WORK]);
+}
+
+// A frame's decode: the chosen word's first bits, as many as `bits` has places, and what is told of it. The work area is left to be cleared, which a caller
+// that decodes many frames does once.
+pub fn decode_uncleared(
+    code: u32,
+    rule: DecodeRule,
+    limit: u16,
+    llr: &[f32],
+    bits: &mut [u8],
+    work: &mut [f32],
+) -> Decoded
+    requires { ⌜ code < 4 ⌝ }
+    requires { ⌜ length (now llr) ≡ sizeN code ⌝ }
+    requires { ⌜ length (now bits) ≤ sizeN code ⌝ }
+    requires { ⌜ 3070 ≤ length (now work) ⌝ }
+    ensures { λ r. ⌜ Chose (decodeAt code rule (now (llr .entry))) limit (length (now (bits .entry))) r (now (bits .exit)) ⌝ }
+    ensures { λ _. ⌜ cleared (now (work .exit)) ≡ cleared (now (work .entry)) ⌝ }
+{
+    let mut hard = [0u8; 576];
+    let n = llr.len();
+    let room = passes::message_room(code);
+    choose(
+        code,
+        rule,
+        limit,
+        llr,
+        &mut work[..room],
+        &mut hard[..n],
+        bits,
+    )
+}
+
+// The same with document 01's work area: its first 3,070 places are +0.0 afterwards, and the rest is unchanged.
 pub fn decode(
     code: u32,
     rule: DecodeRule,
@@ -209,18 +247,7 @@ pub fn decode(
     ensures { λ r. ⌜ Chose (decodeAt code rule (now (llr .entry))) limit (length (now (bits .entry))) r (now (bits .exit)) ⌝ }
     ensures { λ _. ⌜ now (work .exit) ≡ cleared (now (work .entry)) ⌝ }
 {
-    let mut hard = [0u8; 576];
-    let n = llr.len();
-    let room = passes::message_room(code);
-    let decoded = choose(
-        code,
-        rule,
-        limit,
-        llr,
-        &mut work[..room],
-        &mut hard[..n],
-        bits,
-    );
-    clear(&mut work[..WORK]);
+    let decoded = decode_uncleared(code, rule, limit, llr, bits, work);
+    clear_area(work);
     decoded
 }

@@ -101,6 +101,7 @@ pub fn find_reason(
     ensures { λ _. ⌜ now (work .exit) ≡ cleared (now (work .entry)) ⌝ }
 {
     let told = batch::decode_frame(code, rule, scale, limit, values, word, work);
+    belief::clear_area(work);
     let first = told.first;
     reason_of(code, first, values, word)
 }

@@ -6,6 +6,7 @@ use refusal::Status;
 ghost use mathlib.Core.Path.{_≡_};
 ghost use Rattle.refusal.specs.Outcome.{judged};
 ghost use Rattle.refusal.specs.Answers.{statusOf};
+ghost use Rattle.belief.specs.Area.{cleared};
 ghost use Rattle.batch.specs.Codes.{sizeN, sizeK, decodeOf};
 ghost use Rattle.batch.specs.Pairs.{pair, frameOf};
 ghost use Rattle.batch.specs.Calls.{lent, batch, refusalsOf, written, Answered};
@@ -72,7 +73,7 @@ fn decode_record(
     work: &mut [f32],
 )
     requires { ⌜ PlaceFits code (p .offset) j (now values) (lent (now bits) (now counts) (now rounds) (now firsts) (now work)) ⌝ }
-    ensures { λ _. ⌜ lent (now (bits .exit)) (now (counts .exit)) (now (rounds .exit)) (now (firsts .exit)) (now (work .exit))
+    ensures { λ _. ⌜ lent (now (bits .exit)) (now (counts .exit)) (now (rounds .exit)) (now (firsts .exit)) (cleared (now (work .exit)))
         ≡ placed (decodeOf code rule scale (frameOf (now (values .entry)) (pair (p .offset) (sizeN code)))) limit (sizeK code) j
         (lent (now (bits .entry)) (now (counts .entry)) (now (rounds .entry)) (now (firsts .entry)) (now (work .entry))) ⌝ }
 {
@@ -131,7 +132,7 @@ fn decode_records(
         );
         j += 1;
     }
-    batch::clear_area(work);
+    belief::clear_area(work);
 }
 
 // The batch over pair records: "a lent list of pair records, each an offset and a length".

@@ -7,8 +7,8 @@ use Rattle.batch.proofs.decode_frame.Tie as tie
 rule-of-requires : tie.Need-rule-of-requires
 rule-of-requires c κs = search needs
 
-decode-requires : tie.Need-decode-requires
-decode-requires c κs = search needs
+decode-uncleared-requires : tie.Need-decode-uncleared-requires
+decode-uncleared-requires c κs = search needs
 
 same-length : tie.Need-same-length
 same-length c = search needs
@@ -21,10 +21,10 @@ returns c =
     let done = c .before .before .before .before in
     let named = done .before .before .before in
     let a = named .before .before .before .before .args in (
-      frame-chosen (a .code) (a .rule) (a .scale) (a .limit) (a .llr .now) _ _ _ _ (named .rule-of .ensures) (done .decode .ensures .0),
-      done .decode .ensures .1,
+      frame-chosen (a .code) (a .rule) (a .scale) (a .limit) (a .llr .now) _ _ _ _ (named .rule-of .ensures) (done .decode-uncleared .ensures .0),
+      done .decode-uncleared .ensures .1,
     )
 
 pub decode-frame-spec : {M : Type 1} → statement M
 decode-frame-spec =
-    tie.close (tie.spec rule-of-requires decode-requires same-length same-length-2 returns)
+    tie.close (tie.spec rule-of-requires decode-uncleared-requires same-length same-length-2 returns)

@@ -7,7 +7,8 @@ use Rattle.batch.specs.Codes.{sizeN, sizeK}
 use Rattle.batch.specs.Pairs.{pair, pairsOf, frameOf}
 use Rattle.batch.specs.Calls.{Lent, lent, Batch, batch, frameDecode}
 use Rattle.batch.specs.Steps.{PlaceFits, placed}
-use Rattle.batch.proofs.Frames.{pair-inside, offsetAt, offset-is, cleared-length, Going, going-none, going-fits, going-more, going-done}
+use Rattle.belief.proofs.Area.{cleared-length}
+use Rattle.batch.proofs.Frames.{pair-inside, offsetAt, offset-is, Going, going-none, going-fits, going-more, going-done}
 use borrow.Author.Needs.{needs}
 use Rattle.batch.proofs.decode_frames.Statement.{statement}
 use Rattle.batch.proofs.decode_frames.Tie as tie
@@ -98,7 +99,7 @@ loop-again c =
     (d .decode-place .ensures
     ∙ ap (λ (o : ℕ). placed (frameDecode b (frameOf (b .values) (pair o (sizeN (b .code))))) (b .limit) (sizeK (b .code)) (l .loop .j) (memory l))
     (sym (offset i)))
-    (search needs)
+    (search needs) (search needs)
 
 clear-area-requires : tie.Need-clear-area-requires Inv-loop μ-loop
 clear-area-requires c κs = let l = c .before .before in omega (arith, l .loop .inv .wide, start l .pre .area)

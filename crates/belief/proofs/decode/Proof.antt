@@ -1,66 +1,14 @@
--- `belief::decode` meets its contract: the choice over the front of the work area, and then its first 3,070 places cleared. Assumes nothing.
-use mathlib.Core.Path.{sym, _∙_}
-use native.Mathlib.Omega.{arith}
-use lib.Seq.{length-take-le}
-use Rattle.softmath.specs.Single.{zero32}
-use Rattle.belief.specs.Area.{cleared}
-use Rattle.belief.proofs.Fill.{lent-part, lent-cleared}
-use Rattle.belief.proofs.RoundHeld.{few-positions}
-use borrow.Author.Needs.{needs}
+-- `belief::decode` meets its contract: the decode, and then its work area cleared. Assumes nothing.
+use mathlib.Core.Path.{_∙_}
 use borrow.Author.Needs.{needs}
 use Rattle.belief.proofs.decode.Statement.{statement}
 use Rattle.belief.proofs.decode.Tie as tie
 
-message-room-requires : tie.Need-message-room-requires
-message-room-requires c κs = search needs
+decode-uncleared-requires : tie.Need-decode-uncleared-requires
+decode-uncleared-requires c κs = search needs
 
-slice-relend-prefix-choose : tie.Need-slice-relend-prefix-choose
-slice-relend-prefix-choose c = omega (arith, c .message-room .ensures .1, c .before .before .before .before .pre .1 .1 .1)
-
-slice-aggregate-choose : tie.Need-slice-aggregate-choose
-slice-aggregate-choose c =
-    let m = c .before in
-    sym (length-take-le _ _ (omega (arith, m .message-room .ensures .1, m .before .before .before .before .pre .1 .1 .1)))
-
-array-borrow-prefix-hard : tie.Need-array-borrow-prefix-hard
-array-borrow-prefix-hard c =
-    let s = c .before .before .before .before .before in
-    omega (arith, s .pre .1 .0, few-positions (s .args .code))
-
-slice-aggregate-choose-2 : tie.Need-slice-aggregate-choose-2
-slice-aggregate-choose-2 c =
-    let s = c .before .before .before .before .before .before in
-    sym (length-take-le _ _ (omega (arith, s .pre .1 .0, few-positions (s .args .code))))
-
-choose-requires : tie.Need-choose-requires
-choose-requires c κs =
-    let m = c .before .before .before in
-    let s = m .before .before .before .before in
-    let p = s .pre in (
-      p .0,
-      (
-        p .1 .0,
-        (
-          length-take-le _ _ (omega (arith, m .message-room .ensures .1, p .1 .1 .1)) ∙ m .message-room .ensures .0,
-          (length-take-le _ _ (omega (arith, p .1 .0, few-positions (s .args .code))) ∙ p .1 .0, p .1 .1 .0),
-        ),
-      ),
-    )
-
-slice-relend-prefix-clear : tie.Need-slice-relend-prefix-clear
-slice-relend-prefix-clear c = search needs
-
-slice-aggregate-clear : tie.Need-slice-aggregate-clear
-slice-aggregate-clear c =
-    let done = c .before .before .before .before .before .before in
-    let m = done .before .before .before .before in
-    let start = m .before .before .before .before in
-    lent-part (start .args .work .now) (done .choose .last .1 .1 .1 .1 .0) (m .message-room .result) 3070 (done .choose .kept .1 .1 .1 .1 .0)
-    (m .message-room .ensures .1)
-    (start .pre .1 .1 .1)
-
-clear-requires : tie.Need-clear-requires
-clear-requires c κs = search needs
+clear-area-requires : tie.Need-clear-area-requires
+clear-area-requires c κs = search needs
 
 same-length : tie.Need-same-length
 same-length c = search needs
@@ -69,31 +17,10 @@ same-length-2 : tie.Need-same-length-2
 same-length-2 c = search needs
 
 returns : tie.Need-returns
-unfolding cleared
 returns c =
-    let cleared = c .before .before in
-    let done = cleared .before .before .before .before .before .before .before in
-    let m = done .before .before .before .before in
-    let start = m .before .before .before .before in (
-      done .choose .ensures,
-      lent-cleared (start .args .work .now) (done .choose .last .1 .1 .1 .1 .0) (m .message-room .result) 3070 (done .choose .kept .1 .1 .1 .1 .0)
-          (m .message-room .ensures .1)
-          (start .pre .1 .1 .1) zero32 _ (cleared .clear .ensures),
-    )
+    let end = c .before .before in
+    let done = end .before .before .before .before .before .before in
+    (done .decode-uncleared .ensures .0, end .clear-area .ensures ∙ done .decode-uncleared .ensures .1)
 
 pub decode-spec : {M : Type 1} → statement M
-decode-spec =
-    tie.close
-    (tie.spec
-    message-room-requires
-    slice-relend-prefix-choose
-    slice-aggregate-choose
-    array-borrow-prefix-hard
-    slice-aggregate-choose-2
-    choose-requires
-    slice-relend-prefix-clear
-    slice-aggregate-clear
-    clear-requires
-    same-length
-    same-length-2
-    returns)
+decode-spec = tie.close (tie.spec decode-uncleared-requires clear-area-requires same-length same-length-2 returns)

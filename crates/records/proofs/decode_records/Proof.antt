@@ -45,10 +45,10 @@ use Rattle.batch.specs.Calls.{Lent, lent, Batch, batch, frameDecode, written}
 use Rattle.batch.specs.Steps.{Fitting, PlaceFits, placed}
 use Rattle.belief.specs.Area.{cleared}
 use Rattle.batch.proofs.Frames.{offsetAt, Going, going-none, going-fits, going-more, going-done}
-use Rattle.batch.proofs.clear_area as clear
-use Rattle.batch.proofs.clear_area.Symbol as clear-def
-use Rattle.batch.proofs.clear_area.Symbol.{name as #batch·clear-area}
-use Rattle.batch.proofs.clear_area.Met as clear-thm
+use Rattle.belief.proofs.clear_area as clear
+use Rattle.belief.proofs.clear_area.Symbol as clear-def
+use Rattle.belief.proofs.clear_area.Symbol.{name as #belief·clear-area}
+use Rattle.belief.proofs.clear_area.Met as clear-thm
 use Rattle.records.specs.declared.Pair.{Pair}
 use Rattle.records.specs.Fields.{pairOf, pairsOf}
 use Rattle.records.proofs.Types.{pair, none}
@@ -88,6 +88,10 @@ module _ (n : Numbers) (vs : List Float) (ys : List Pair) (m : Lent) where
   abbrev b : Batch
   b = handed n vs ys m
 
+  -- the memory with the work area cleared
+  abbrev emptied : Lent → Lent
+  emptied l = lent (l .bits) (l .counts) (l .rounds) (l .firsts) (cleared (l .work))
+
   -- the memory with the frame from an offset on at place j
   abbrev frame-placed : Turn b → ℕ → Lent
   frame-placed t o = placed (frameDecode b (named.frameOf vs (named.pair o (sizeN (n .code))))) (n .limit) (sizeK (n .code)) (t .j) (t .memory)
@@ -107,8 +111,13 @@ module _ (n : Numbers) (vs : List Float) (ys : List Pair) (m : Lent) where
       ready : PlaceFits (n .code) offset (t .j) vs (t .memory)
       ready = subst (λ (o : ℕ). PlaceFits (n .code) o (t .j) vs (t .memory)) offset-is (going-fits fit (t .going) there)
 
-      abbrev one-more : (l : Lent) → l ≡ frame-placed t offset → length (l .bits) ≡ length (t .memory .bits) → Turn b
-      one-more l e same = record { j = t .j + 1; memory = l; going = going-more fit (t .going) there (e ∙ ap (frame-placed t) (sym offset-is)) same }
+      abbrev one-more : (l : Lent) → emptied l ≡ frame-placed t offset → length (l .bits) ≡ length (t .memory .bits)
+          → length (l .work) ≡ length (t .memory .work) → Turn b
+      one-more l e same wide = record {
+        j = t .j + 1;
+        memory = l;
+        going = going-more fit (t .going) there (e ∙ ap (frame-placed t) (sym offset-is)) same wide;
+      }
 
     all-done : (t .j < length ys → ⊥) → {work : List Float} → work ≡ cleared (t .memory .work)
         → lent (t .memory .bits) (t .memory .counts) (t .memory .rounds) (t .memory .firsts) work ≡ written b
@@ -121,7 +130,7 @@ left-over {b} t = length (b .pairs) - t .j
 -- ---- the walk
 module _ {M : Type 1} (𝓤 : URA M) (H : Heap 𝓤) (A : Atoms 𝓤) (W : Given 𝓤 H A) (mem : Memory → SProp 𝓤) (run : Routine → Fun 𝓤) (𝓣 : Tables 𝓤 H)
     (known-place : Triple 𝓤 (𝓣 .C #records·decode-record) (Callee 𝓤 H A place.ended (place.clauses 𝓤 H A mem run)))
-    (known-clear : Triple 𝓤 (𝓣 .C #batch·clear-area) (Callee 𝓤 H A clear.ended (clear.clauses 𝓤 H A mem run))) where
+    (known-clear : Triple 𝓤 (𝓣 .C #belief·clear-area) (Callee 𝓤 H A clear.ended (clear.clauses 𝓤 H A mem run))) where
   module _ (n : Numbers) (h : Handles) (vs : List Float) (ys : List Pair) (m : Lent) (sizes : Sizes vs ys m) (fit : Fitting (b n vs ys m)) where
     abbrev B : Batch
     B = b n vs ys m
@@ -171,14 +180,15 @@ module _ {M : Type 1} (𝓤 : URA M) (H : Heap 𝓤) (A : Atoms 𝓤) (W : Given
               (takes (λ ν. bound (lent-args (to-place t p g) ν)) (λ ν. tt) (λ ν. hands 𝓤 H A W (lent-args (to-place t p g) ν)) (λ ν ws. ws) (λ ν. refl)
               (λ ν ws. refl))
               (λ ν. factI 𝓤 _ (emp 𝓤) (ready n vs ys m fit t p))
-              (λ ν _ ws. left (ws .1 .1 .1 .1 .1 .1 .1)
+              (λ ν _ ws. emptied n vs ys m (left (ws .1 .1 .1 .1 .1 .1 .1))
               ≡ frame-placed n vs ys m t (getD ys (t .j) none .offset)) (λ ν _ ws. id⊢ 𝓤 _)
               ! (λ ν. args ! (loc 1 ∷ loc 2 ∷ loc 3 ∷ loc 4 ∷ loc 5 ∷ loc 13 ∷ loc 12 ∷ loc 20 ∷ loc 22 ∷ loc 24 ∷ loc 26 ∷ loc 28 ∷ []) refl)
               (λ ν v _ ws e same. stores-plain ! nothing tt (e .0) tt refl $ move ! (0 ∷ 1 ∷ 7 ∷ []) $
               sets-last ! (bin ! (var ! refl) (lit ! tt) (record { fits = omega (arith, p, sizes .pairs .0) })) refl tt
               (tt, record { fits = omega (arith, p, sizes .pairs .0) }) $
               forgets-from ! 13 $ again ! (λ x y. left-over x < left-over y) (At bs) t
-              (one-more n vs ys m fit t p (left (ws .1 .1 .1 .1 .1 .1 .1)) (e .1) (same .1 .0)) (omega (arith, there n vs ys m fit t p))))
+              (one-more n vs ys m fit t p (left (ws .1 .1 .1 .1 .1 .1 .1)) (e .1) (same .1 .0) (same .1 .1 .1 .1 .1 .0))
+              (omega (arith, there n vs ys m fit t p))))
           | no p ↦
               sets ! (of-opd ! (count 6 refl refl !)) tt (tt, record { fits = sizes .pairs .0 }) $
               sets-as ! (bin ! (var ! refl) (var ! refl) tt) (ap vbool (le-ltb (t .j) (length ys) (omega (arith, p)))) tt (tt, tt) $ leaves-loop !
@@ -244,5 +254,5 @@ decode-records-spec 𝓤 H 𝓜 𝓖 𝓡 =
     (meets 𝓤 H (𝓖 .A) (givenOf 𝓤 H 𝓜 𝓖) (𝓜 .mem) (𝓡 .run) (tablesOf 𝓤 H 𝓜 (tables 𝓤 H 𝓜 𝓡 code-of.env))
     (cited 𝓤 H (Callee 𝓤 H (𝓖 .A) place.ended (place.clauses 𝓤 H (𝓖 .A) (𝓜 .mem) (𝓡 .run))) 𝓜 𝓡 code-of.env #records·decode-record place-def.routine
     code-of.calls-records·decode-record (place-thm.met 𝓤 H 𝓜 𝓖 𝓡))
-    (cited 𝓤 H (Callee 𝓤 H (𝓖 .A) clear.ended (clear.clauses 𝓤 H (𝓖 .A) (𝓜 .mem) (𝓡 .run))) 𝓜 𝓡 code-of.env #batch·clear-area clear-def.routine
-    code-of.calls-batch·clear-area (clear-thm.met 𝓤 H 𝓜 𝓖 𝓡)))
+    (cited 𝓤 H (Callee 𝓤 H (𝓖 .A) clear.ended (clear.clauses 𝓤 H (𝓖 .A) (𝓜 .mem) (𝓡 .run))) 𝓜 𝓡 code-of.env #belief·clear-area clear-def.routine
+    code-of.calls-belief·clear-area (clear-thm.met 𝓤 H 𝓜 𝓖 𝓡)))

@@ -1,10 +1,10 @@
--- `batch::clear_area` meets its contract: its first 3,070 places go to `belief::clear`. Assumes nothing.
+-- `belief::clear_area` meets its contract: its first 3,070 places go to `clear`. Assumes nothing.
 use mathlib.Core.Path.{sym}
 use lib.Seq.{length-take-le}
-use Rattle.batch.proofs.Frames.{front-cleared}
+use Rattle.belief.proofs.Area.{front-cleared}
 use borrow.Author.Needs.{needs}
-use Rattle.batch.proofs.clear_area.Statement.{statement}
-use Rattle.batch.proofs.clear_area.Tie as tie
+use Rattle.belief.proofs.clear_area.Statement.{statement}
+use Rattle.belief.proofs.clear_area.Tie as tie
 
 slice-relend-prefix-clear : tie.Need-slice-relend-prefix-clear
 slice-relend-prefix-clear c = search needs
