@@ -39,7 +39,7 @@ pub fn frame_values(code: u32) -> usize
     if code > 2 {
         return ldpc::N;
     }
-    decoders::values_of(code)
+    ldpc_codes::values_of(code)
 }
 
 // K of a code.
@@ -49,7 +49,7 @@ pub fn message_bits(code: u32) -> usize
     if code > 2 {
         return ldpc::K;
     }
-    decoders::bits_of(code)
+    ldpc_codes::bits_of(code)
 }
 
 // ---- refusals

@@ -22,16 +22,6 @@ use Rattle.decoders.specs.Calls.{Single, Answered, softWithRefusals, fra
 
 -- ---- numbers
 
-pub values-else : (n : ℕ) → (n ≡ 0 → ⊥) → (n ≡ 1 → ⊥) → 512 ≡ blockLength (codeOf n)
-values-else zero g h = absurd (g refl)
-values-else (suc zero) g h = absurd (h refl)
-values-else (suc (suc n)) g h = refl
-
-pub bits-else : (n : ℕ) → (n ≡ 0 → ⊥) → (n ≡ 1 → ⊥) → 384 ≡ codeOf n .k
-bits-else zero g h = absurd (g refl)
-bits-else (suc zero) g h = absurd (h refl)
-bits-else (suc (suc n)) g h = refl
-
 pub house-rule : (n : ℕ) (scale : Float) → (n ≡ 0 → ⊥) → (n ≡ 1 → ⊥) → (n ≡ 2 → ⊥) → ScaledMinSum threeQuarters ≡ staircaseRule n scale
 house-rule zero scale a b c = absurd (a refl)
 house-rule (suc zero) scale a b c = absurd (b refl)

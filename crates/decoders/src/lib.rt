@@ -1,13 +1,8 @@
 // The soft decoders of the staircase codes and of (174,91): the round loop of `belief` at each code's number.
 ghost use mathlib.Core.Path.{_≡_};
-ghost use Rattle.construction.specs.Codes.{blockLength};
-ghost use Rattle.staircase.specs.Codes.{codeOf};
 ghost use Rattle.decoders.specs.Decodes.{staircaseRule, ft8Rule, ruleOf};
 ghost use Rattle.decoders.specs.Calls.{decodingOf, Answered, softWith, soft, ft8Soft};
 use belief::Decoded;
-use construction::codes::N512R12;
-use construction::codes::N512R34;
-use construction::codes::N576R23;
 use refusal::Refusal;
 use softmath::DecodeRule;
 
@@ -56,31 +51,6 @@ pub fn rule_of(code: u32, rule: u32, scale: f32) -> DecodeRule
     staircase_rule(rule, scale)
 }
 
-// N and K of the staircase code with that number: any above 1 is code 2.
-pub fn values_of(code: u32) -> usize
-    ensures { λ r. ⌜ r ≡ blockLength (codeOf code) ⌝ }
-{
-    if code == 0 {
-        return N512R12::N;
-    }
-    if code == 1 {
-        return N576R23::N;
-    }
-    N512R34::N
-}
-
-pub fn bits_of(code: u32) -> usize
-    ensures { λ r. ⌜ r ≡ codeOf code .k ⌝ }
-{
-    if code == 0 {
-        return N512R12::K;
-    }
-    if code == 1 {
-        return N576R23::K;
-    }
-    N512R34::K
-}
-
 // A staircase decode by the rule with that number, which is `decode_soft_with`.
 pub fn decode_soft_with(
     code: u32,
@@ -103,10 +73,10 @@ pub fn decode_soft_with(
     if rule == 4 {
         return Decoding::Refused(Refusal::RuleNotOfCode);
     }
-    if llr.len() != values_of(code) {
+    if llr.len() != ldpc_codes::values_of(code) {
         return Decoding::Refused(Refusal::InputLength);
     }
-    if bits.len() != bits_of(code) {
+    if bits.len() != ldpc_codes::bits_of(code) {
         return Decoding::Refused(Refusal::OutputLength);
     }
     if work.len() < belief::WORK {

@@ -15,12 +15,13 @@ ghost use Prim.Native.Nat.{_≤_};
 ghost use lib.ListN.{length, drop};
 ghost use Rattle.refusal.specs.Outcome.{judged, kept};
 ghost use Rattle.refusal.specs.Answers.{statusOf};
-ghost use Rattle.construction.specs.Codes.{n512r12, n576r23, n512r34};
+ghost use Rattle.construction.specs.Codes.{n512r12, n576r23, n512r34, blockLength};
+ghost use Rattle.staircase.specs.Codes.{codeOf, checks};
 ghost use Rattle.tanner.specs.Masked.{syndromeMasked};
 ghost use Rattle.tanner.specs.Found.{countingOf};
 ghost use Rattle.staircase.specs.Shape.{stairs};
 ghost use Rattle.stairs.specs.Stairs.{Stairs, filled};
-ghost use Rattle.ldpc_codes.specs.Calls.{lengthRefusals, codeLengths, codewordOf, encodeRefusals, encodedBy};
+ghost use Rattle.ldpc_codes.specs.Calls.{encodeRefusals, encodedBy};
 ghost use Rattle.ldpc_codes.specs.Calls.{shortRefusals, shortWord, syndromeOf, weightRefusals, syndromeBy};
 
 // The message bytes, whole, at the front of the codeword.
@@ -35,82 +36,79 @@ fn copy_message(message: &[u8], codeword: &mut [u8])
     }
 }
 
-// A code's encoding over its table, with its lengths tested.
-fn encode_over(
-    width: usize,
-    k: usize,
-    m: usize,
-    taps: &[u16],
-    n: usize,
-    message: &[u8],
-    codeword: &mut [u8],
-) -> Status
-    requires { ⌜ Stairs k width m n (now taps) ⌝ }
-    ensures { λ r. ⌜ statusOf r ≡ judged (lengthRefusals k n (now (message .entry)) (now (codeword .entry))) tt ⌝ }
-    ensures { λ r. ⌜ now (codeword .exit)
-        ≡ kept (lengthRefusals k n (now (message .entry)) (now (codeword .entry))) (now (codeword .entry))
-        (filled (stairs k width m (now (taps .entry))) k (now (message .entry) ++ drop (length (now (message .entry))) (now (codeword .entry)))) ⌝ }
+// N and K of the code with that number: any above 1 is code 2.
+pub fn values_of(code: u32) -> usize
+    ensures { λ r. ⌜ r ≡ blockLength (codeOf code) ⌝ }
 {
-    if message.len() != k {
-        return Status::Refused(Refusal::InputLength);
+    if code == 0 {
+        return N512R12::N;
     }
-    if codeword.len() != n {
-        return Status::Refused(Refusal::OutputLength);
+    if code == 1 {
+        return N576R23::N;
     }
-    copy_message(message, codeword);
-    stairs::fill(width, k, m, taps, codeword);
-    Status::Done
+    N512R34::N
 }
 
-// A codeword of code 0.
-fn encode_n512r12(message: &[u8], codeword: &mut [u8]) -> Status
-    ensures { λ r. ⌜ statusOf r ≡ judged (codeLengths n512r12 (now (message .entry)) (now (codeword .entry))) tt ⌝ }
-    ensures { λ r. ⌜ now (codeword .exit)
-        ≡ kept (codeLengths n512r12 (now (message .entry)) (now (codeword .entry))) (now (codeword .entry)) (codewordOf n512r12 (now (message .entry))) ⌝ }
+pub fn bits_of(code: u32) -> usize
+    ensures { λ r. ⌜ r ≡ codeOf code .k ⌝ }
 {
-    encode_over(
-        3,
-        N512R12::K,
-        N512R12::M,
-        &N512R12_TAPS,
-        N512R12::N,
-        message,
-        codeword,
-    )
+    if code == 0 {
+        return N512R12::K;
+    }
+    if code == 1 {
+        return N576R23::K;
+    }
+    N512R34::K
 }
 
-// A codeword of code 1.
-fn encode_n576r23(message: &[u8], codeword: &mut [u8]) -> Status
-    ensures { λ r. ⌜ statusOf r ≡ judged (codeLengths n576r23 (now (message .entry)) (now (codeword .entry))) tt ⌝ }
-    ensures { λ r. ⌜ now (codeword .exit)
-        ≡ kept (codeLengths n576r23 (now (message .entry)) (now (codeword .entry))) (now (codeword .entry)) (codewordOf n576r23 (now (message .entry))) ⌝ }
+// The parity bits of code 0.
+fn fill_n512r12(codeword: &mut [u8])
+    requires { ⌜ length (now codeword) ≡ blockLength n512r12 ⌝ }
+    ensures { λ _. ⌜ now (codeword .exit) ≡ filled (checks n512r12) (n512r12 .k) (now (codeword .entry)) ⌝ }
 {
-    encode_over(
-        6,
-        N576R23::K,
-        N576R23::M,
-        &N576R23_TAPS,
-        N576R23::N,
-        message,
-        codeword,
-    )
+    let taps = N512R12_TAPS;
+    stairs::fill_four(3, 256, 0, 16, &taps, codeword);
+    stairs::fill_four(3, 256, 64, 16, &taps, codeword);
+    stairs::fill_four(3, 256, 128, 16, &taps, codeword);
+    stairs::fill_four(3, 256, 192, 16, &taps, codeword);
 }
 
-// A codeword of code 2.
-fn encode_n512r34(message: &[u8], codeword: &mut [u8]) -> Status
-    ensures { λ r. ⌜ statusOf r ≡ judged (codeLengths n512r34 (now (message .entry)) (now (codeword .entry))) tt ⌝ }
-    ensures { λ r. ⌜ now (codeword .exit)
-        ≡ kept (codeLengths n512r34 (now (message .entry)) (now (codeword .entry))) (now (codeword .entry)) (codewordOf n512r34 (now (message .entry))) ⌝ }
+// The parity bits of code 1.
+fn fill_n576r23(codeword: &mut [u8])
+    requires { ⌜ length (now codeword) ≡ blockLength n576r23 ⌝ }
+    ensures { λ _. ⌜ now (codeword .exit) ≡ filled (checks n576r23) (n576r23 .k) (now (codeword .entry)) ⌝ }
 {
-    encode_over(
-        9,
-        N512R34::K,
-        N512R34::M,
-        &N512R34_TAPS,
-        N512R34::N,
-        message,
-        codeword,
-    )
+    let taps = N576R23_TAPS;
+    stairs::fill_four(6, 384, 0, 12, &taps, codeword);
+    stairs::fill_four(6, 384, 48, 12, &taps, codeword);
+    stairs::fill_four(6, 384, 96, 12, &taps, codeword);
+    stairs::fill_four(6, 384, 144, 12, &taps, codeword);
+}
+
+// The parity bits of code 2.
+fn fill_n512r34(codeword: &mut [u8])
+    requires { ⌜ length (now codeword) ≡ blockLength n512r34 ⌝ }
+    ensures { λ _. ⌜ now (codeword .exit) ≡ filled (checks n512r34) (n512r34 .k) (now (codeword .entry)) ⌝ }
+{
+    let taps = N512R34_TAPS;
+    stairs::fill_four(9, 384, 0, 8, &taps, codeword);
+    stairs::fill_four(9, 384, 32, 8, &taps, codeword);
+    stairs::fill_four(9, 384, 64, 8, &taps, codeword);
+    stairs::fill_four(9, 384, 96, 8, &taps, codeword);
+}
+
+// The parity bits of the code with that number, in a codeword whose message bytes are in place.
+fn fill(code: u32, codeword: &mut [u8])
+    requires { ⌜ length (now codeword) ≡ blockLength (codeOf code) ⌝ }
+    ensures { λ _. ⌜ now (codeword .exit) ≡ filled (checks (codeOf code)) (codeOf code .k) (now (codeword .entry)) ⌝ }
+{
+    if code == 0 {
+        return fill_n512r12(codeword);
+    }
+    if code == 1 {
+        return fill_n576r23(codeword);
+    }
+    fill_n512r34(codeword)
 }
 
 // The codeword of a message of K bytes, whose low bits are its bits.
@@ -119,16 +117,18 @@ pub fn encode(code: u32, message: &[u8], codeword: &mut [u8]) -> Status
     ensures { λ r. ⌜ now (codeword .exit)
         ≡ kept (encodeRefusals code (now (message .entry)) (now (codeword .entry))) (now (codeword .entry)) (encodedBy code (now (message .entry))) ⌝ }
 {
-    if code == 0 {
-        return encode_n512r12(message, codeword);
+    if code > 2 {
+        return Status::Refused(Refusal::UnknownCode);
     }
-    if code == 1 {
-        return encode_n576r23(message, codeword);
+    if message.len() != bits_of(code) {
+        return Status::Refused(Refusal::InputLength);
     }
-    if code == 2 {
-        return encode_n512r34(message, codeword);
+    if codeword.len() != values_of(code) {
+        return Status::Refused(Refusal::OutputLength);
     }
-    Status::Refused(Refusal::UnknownCode)
+    copy_message(message, codeword);
+    fill(code, codeword);
+    Status::Done
 }
 
 // The count and the first unsatisfied check of a word over a code's table, with its length tested.

@@ -92,7 +92,8 @@ module _ (k width m : ℕ) (table : List ℕ) (size : length table ≡ m * width
 
   taps-length : (c : ℕ) → c < m → length (tapsAt width table c) ≡ width
   unfolding tapsAt
-  taps-length c h = length-take-le width (drop (c * width) table) (simp length-drop (omega (arith, row-fits width m c (c * width) (length table) h refl size)))
+  taps-length c h = length-take-le width (drop (c * width) table)
+      (simp length-drop (omega (arith, row-fits width m c (c * width) (length table) h refl (omega (arith, size)))))
 
   entries-most : (i : ℕ) → length (parityEntries k i) ≤ 2
   unfolding parityEntries

@@ -9,18 +9,18 @@ use native.Mathlib.Omega.{arith}
 use lib.Bits.{bitAnd, bitXor, and-mask, xor-zero-r}
 use lib.ListN.{length, getD, take, drop, set}
 use lib.Seq.{getD-set-same, getD-set-other}
-use Rattle.tanner.specs.Checks.{xorFrom, nonzero}
+use Rattle.tanner.specs.Checks.{Checks, xorFrom, nonzero}
 use Rattle.tanner.specs.Masked.{countMasked}
 use Rattle.tanner.specs.Flat.{Below}
 use Rattle.tanner.proofs.Below.{below-part, below-less, below-first, below-rest}
 use Rattle.tanner.proofs.Count.{nonzero-bit}
 use Rattle.staircase.specs.Staircase.{parityEntries}
 use Rattle.staircase.specs.Shape.{tapsAt, stairRow, stairRows, stairs}
-use Rattle.stairs.specs.Stairs.{bitBefore, filled}
+use Rattle.stairs.specs.Stairs.{Stairs, Part, bitBefore, filled}
 
 -- ---- the row's place in the table
 
-pub row-fits : (width m i a n : ℕ) → i < m → a ≡ i * width → n ≡ m * width → a + width ≤ n
+pub row-fits : (width m i a n : ℕ) → i < m → a ≡ i * width → m * width ≤ n → a + width ≤ n
 row-fits width m i a n h e s =
     let next : suc i ≤ m = h in
     omega (arith, suc-mul i width, mul-le-mul-right width next)
@@ -54,6 +54,26 @@ pub rows-all : (k width m : ℕ) (table : List ℕ) → stairRows k width table 
 rows-all k width m table =
     let e : m - 0 ≡ m = omega arith in
     rw e
+
+pub rows-from : (k width first n : ℕ) (table : List ℕ) → stairRows k width table first (first + n - first) ≡ stairRows k width table first n
+rows-from k width first n table =
+    let e : first + n - first ≡ n = omega arith in
+    rw e
+
+rows-append : (k width : ℕ) (table : List ℕ) (i a b : ℕ) → stairRows k width table i (a + b) ≡ stairRows k width table i a ++ stairRows k width table (i + a) b
+unfolding stairRows
+rows-append k width table i zero b =
+    let e : 0 + b ≡ b = omega arith in
+    rw (add-zero i, e) refl
+rows-append k width table i (suc a) b =
+    let e : suc i + a ≡ i + suc a = omega arith in
+    let f : suc a + b ≡ suc (a + b) = omega arith in
+    rw f (ap (λ (rs : Checks). stairRow k width table i ∷ rs) (rw e at (rows-append k width table (suc i) a b)))
+
+rows-length : (k width : ℕ) (table : List ℕ) (i n : ℕ) → length (stairRows k width table i n) ≡ n
+unfolding stairRows
+rows-length k width table i zero = refl
+rows-length k width table i (suc n) = ap suc (rows-length k width table (suc i) n)
 
 -- ---- the XOR of a row
 
@@ -134,3 +154,31 @@ module _ (k width : ℕ) (table w : List ℕ) (i a x before : ℕ) (e : a ≡ i 
 pub fill-done : (k width m : ℕ) (table : List ℕ) (i : ℕ) (w z : List ℕ) → m ≤ i → filled (stairRows k width table i (m - i)) (k + i) w ≡ z → w ≡ z
 unfolding filled
 fill-done k width m table i w z h inv = rw (rows-done k width m table i h) at inv
+
+-- ---- one part filled in after another
+
+filled-append : (xs ys : Checks) (p : ℕ) (w : List ℕ) → filled (xs ++ ys) p w ≡ filled ys (p + length xs) (filled xs p w)
+unfolding filled
+filled-append [] ys p w = rw (add-zero p)
+filled-append (x ∷ xs) ys p w =
+    let e : suc p + length xs ≡ p + suc (length xs) = omega arith in
+    rw e at (filled-append xs ys (suc p) (set w p (countMasked 1 (x ∷ []) (set w p 0))))
+
+-- b rows from row `at` on, after a rows before it
+pub fill-then : (k width : ℕ) (table : List ℕ) (first a b at : ℕ) (w u v : List ℕ) → at ≡ first + a
+    → u ≡ filled (stairRows k width table first a) (k + first) w → v ≡ filled (stairRows k width table at b) (k + at) u
+    → v ≡ filled (stairRows k width table first (a + b)) (k + first) w
+fill-then k width table first a b at w u v h e f =
+    let rows = stairRows k width table first a in
+    let n : k + at ≡ k + first + length rows = omega (arith, rows-length k width table first a) in
+    let more : v ≡ filled (stairRows k width table (first + a) b) (k + first + length rows) (filled rows (k + first) w) =
+    f ∙ rw (n, h, e) refl in
+    more ∙ rw (rows-append k width table first a b) (sym (filled-append rows (stairRows k width table (first + a) b) (k + first) w))
+
+-- a part of a code's rows
+pub part-of : (first n : ℕ) {k width m len : ℕ} {table : List ℕ} → Stairs k width m len table → first + n ≤ m → Part k width first n len table
+part-of first n {width = width} s h = record {
+  size = omega (arith, s .size, mul-le-mul-right width h);
+  low = s .low;
+  room = omega (arith, s .room);
+}

@@ -14,6 +14,12 @@ pub record Stairs (k width m n : ℕ) (table : List ℕ) : Type 0 where
   pub room : k + m ≤ n
   pub few : m < 65536
 
+-- n rows from row `first` on lie in the table, and a word of `len` bytes has room for their parity bits
+pub record Part (k width first n len : ℕ) (table : List ℕ) : Type 0 where
+  pub size : (first + n) * width ≤ length table
+  pub low : Below k table
+  pub room : k + (first + n) ≤ len
+
 -- the bit before parity bit i: none for row 0
 unfoldable pub bitBefore : ℕ → ℕ → Word → ℕ
 bitBefore k zero w = 0

@@ -1,54 +1,94 @@
--- `ldpc_codes::encode` meets its contract: the code that has the number, or none. Assumes nothing.
-use Prim.Native.Nat.{_≤_}
+-- `ldpc_codes::encode` meets its contract: each way out by the tests that led there. Assumes nothing.
+use mathlib.Core.Path.{_≡_, sym, ap, _∙_}
+use Prim.Native.Nat.{_≤_, _<_}
 use native.Mathlib.Omega.{arith}
-use borrow.Author.Tests.{le-ltb}
+use borrow.Author.Tests.{lt-ltb, le-ltb, eq-eqb, ne-eqb}
+use lib.ListN.{length}
+use Rattle.construction.specs.Codes.{blockLength}
+use Rattle.staircase.specs.Codes.{codeOf, checks}
+use Rattle.stairs.specs.Stairs.{filled}
+use Rattle.ldpc_codes.proofs.Laid.{laid-encoded}
 use borrow.Author.Needs.{needs}
 use Rattle.ldpc_codes.proofs.encode.Statement.{statement}
 use Rattle.ldpc_codes.proofs.encode.Tie as tie
 
-encode-n512r12-requires : tie.Need-encode-n512r12-requires
-encode-n512r12-requires c κs = search needs
+-- ---- places of the walk, and what the tests there have shown
+
+abbrev at-bits : tie.After-bits-of → tie.Start
+at-bits b = b .before .before .before .before
+
+known : (b : tie.After-bits-of) → at-bits b .args .code < 3
+known b = omega (arith, b .before .if1 .left)
+
+bits-right : (c : tie.Else2) → let a = at-bits (c .before) .args in length (a .message .now) ≡ codeOf (a .code) .k
+bits-right c = c .if2 .left ∙ c .before .bits-of .ensures
+
+values-right : (c : tie.Else3) → let a = at-bits (c .before .before .before) .args in length (a .codeword .now) ≡ blockLength (codeOf (a .code))
+values-right c = c .if3 .left ∙ c .before .values-of .ensures
+
+-- ---- the needs
+
+returns : tie.Need-returns
+returns c =
+    let h : 3 ≤ c .before .before .before .args .code = omega (arith, c .if1 .taken) in
+    (simp (le-ltb _ _ h), simp (le-ltb _ _ h))
+
+bits-of-requires : tie.Need-bits-of-requires
+bits-of-requires c κs = search needs
+
+returns-2 : tie.Need-returns-2
+returns-2 c =
+    let k = lt-ltb _ _ (known (c .before)) in
+    let t = ne-eqb _ _ (λ e. c .if2 .taken (e ∙ sym (c .before .bits-of .ensures))) in
+    (simp (k, t), simp (k, t))
+
+values-of-requires : tie.Need-values-of-requires
+values-of-requires c κs = search needs
+
+returns-3 : tie.Need-returns-3
+returns-3 c =
+    let tested = c .before .before in
+    let k = lt-ltb _ _ (known (tested .before)) in
+    let s = eq-eqb _ _ (bits-right tested) in
+    let t = ne-eqb _ _ (λ e. c .if3 .taken (e ∙ sym (c .before .values-of .ensures))) in
+    (simp (k, s, t), simp (k, s, t))
+
+copy-message-requires : tie.Need-copy-message-requires
+copy-message-requires c κs =
+    let tested = c .before in
+    omega (arith, bits-right (tested .before .before), values-right tested)
+
+fill-requires : tie.Need-fill-requires
+fill-requires c κs =
+    let copied = c .before .before .before in
+    copied .copy-message .kept .1 .0 ∙ values-right (copied .before .before)
 
 same-length : tie.Need-same-length
 same-length c = search needs
 
-returns : tie.Need-returns
-returns c = let done = c .before .before in rw (done .before .before .if1 .taken) (done .encode-n512r12 .ensures)
-
-encode-n576r23-requires : tie.Need-encode-n576r23-requires
-encode-n576r23-requires c κs = search needs
-
-same-length-2 : tie.Need-same-length-2
-same-length-2 c = search needs
-
-returns-2 : tie.Need-returns-2
-returns-2 c = let done = c .before .before in rw (done .before .before .if2 .taken) (done .encode-n576r23 .ensures)
-
-encode-n512r34-requires : tie.Need-encode-n512r34-requires
-encode-n512r34-requires c κs = search needs
-
-same-length-3 : tie.Need-same-length-3
-same-length-3 c = search needs
-
-returns-3 : tie.Need-returns-3
-returns-3 c = let done = c .before .before in rw (done .before .before .if3 .taken) (done .encode-n512r34 .ensures)
-
 returns-4 : tie.Need-returns-4
 returns-4 c =
-    let h : 3 ≤ c .before .before .before .before .before .args .code = omega arith in
-    (simp (le-ltb _ _ h), simp (le-ltb _ _ h))
+    let done = c .before .before in
+    let copied = done .before .before .before .before in
+    let tested = copied .before .before in
+    let a = at-bits (tested .before .before .before) .args in
+    let k = lt-ltb _ _ (known (tested .before .before .before)) in
+    let s = eq-eqb _ _ (bits-right (tested .before .before)) in
+    let t = eq-eqb _ _ (values-right tested) in
+    let same = done .fill .ensures ∙ ap (filled (checks (codeOf (a .code))) (codeOf (a .code) .k)) (copied .copy-message .ensures)
+    ∙ laid-encoded (codeOf (a .code)) (a .message .now) (a .codeword .now) (bits-right (tested .before .before)) (values-right tested) in
+    (simp (k, s, t), simp (k, s, t) same)
 
 pub encode-spec : {M : Type 1} → statement M
 encode-spec =
     tie.close
     (tie.spec
-    encode-n512r12-requires
-    same-length
     returns
-    encode-n576r23-requires
-    same-length-2
+    bits-of-requires
     returns-2
-    encode-n512r34-requires
-    same-length-3
+    values-of-requires
     returns-3
+    copy-message-requires
+    fill-requires
+    same-length
     returns-4)

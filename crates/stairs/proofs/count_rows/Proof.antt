@@ -28,7 +28,7 @@ abbrev μ-loop : tie.MeasureT-loop
 row : (c : tie.In-loop Inv-loop μ-loop) → let s = c .before .before .before .before in c .before .loop .a + s .args .width ≤ length (s .args .taps .now)
 row c =
     let s = c .before .before .before .before in
-    row-fits (s .args .width) (s .args .m) (c .before .loop .i) _ _ (c .loop-test .taken) (c .before .loop .inv .1) (s .pre .size)
+    row-fits (s .args .width) (s .args .m) (c .before .loop .i) _ _ (c .loop-test .taken) (c .before .loop .inv .1) (omega (arith, s .pre .size))
 
 -- once its message positions are XORed: the XOR of the whole row
 whole : (c : tie.After-xor-at Inv-loop μ-loop) → let l = c .before .before .before .before in let s = l .before .before .before .args in
