@@ -1,12 +1,4 @@
 pub mod TimesOne
 pub mod Pads
-pub mod ProductLoops
-pub mod ProductColumns
-pub mod ProductTurn
-pub mod Magnitudes
-pub mod Cells
-pub mod CellSlots
-pub mod CellColumns
 pub mod PadsSet
 pub mod Steps
-pub mod OneColumn

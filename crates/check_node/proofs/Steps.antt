@@ -15,8 +15,9 @@ use Rattle.slots.specs.Columns.{column}
 use Rattle.slots.specs.Layout.{scattered}
 use Rattle.slots.proofs.Columns.{column-map}
 use Rattle.slots.proofs.Scattered.{scattered-length}
-use Rattle.check_node.specs.Products.{ByColumns}
-use Rattle.check_node.specs.CheckStep.{AtColumns, padOf, factorOf}
+use Rattle.slot_products.specs.Products.{ByColumns}
+use Rattle.slot_minima.specs.MinSum.{factorOf}
+use Rattle.check_node.specs.CheckStep.{AtColumns, padOf}
 
 -- the three passes are the step
 step-columns : (rule : DecodeRule) (m d : ℕ) (w u : List Float) → d * m ≤ length w → length u ≡ length w

@@ -1,25 +1,9 @@
 -- The check step of every check at once, over a work area by slots: down each column the rule's answers, the pads set before.
-use mathlib.Core.Path.{_≡_}
 use mathlib.Core.Bool.{true, false}
-use mathlib.Core.List.{List}
-use Prim.Native.Nat.{ℕ, _<_}
 use lib.Ieee.{Float, inf}
-use lib.ListN.{length}
-use Rattle.softmath.specs.Single.{one32}
 use Rattle.softmath.specs.declared.DecodeRule.{DecodeRule}
 use Rattle.softmath.specs.declared.DecodeRule.the-variants.{SumProduct, MinSum, ScaledMinSum, Ft8}
-use Rattle.slots.specs.Columns.{column}
-
--- v is w with each of the m columns of d entries answered by f
-pub record AtColumns (f : List Float → List Float) (m d : ℕ) (w v : List Float) : Type 0 where
-  pub size : length v ≡ length w
-  pub columns : (c : ℕ) → c < m → column m d c v ≡ f (column m d c w)
-
--- v is w with xs in column c of d entries, and no other column changed
-pub record ColumnIs (m d c : ℕ) (xs w v : List Float) : Type 0 where
-  pub size : length v ≡ length w
-  pub here : column m d c v ≡ xs
-  pub apart : (k : ℕ) → k < m → (k ≡ c → ⊥) → column m d k v ≡ column m d k w
+pub use Rattle.slot_minima.specs.MinSum.{AtColumns}
 
 -- the message in the place of a last entry that a check lacks: +infinity, or -infinity where the rule takes minus the message
 unfoldable pub padOf : DecodeRule → Float
@@ -27,10 +11,3 @@ padOf SumProduct = inf false
 padOf MinSum = inf false
 padOf (ScaledMinSum scale) = inf false
 padOf Ft8 = inf true
-
--- what a min-sum rule multiplies its answers by; the rules that multiply have no use for it
-unfoldable pub factorOf : DecodeRule → Float
-factorOf SumProduct = one32
-factorOf MinSum = one32
-factorOf (ScaledMinSum scale) = scale
-factorOf Ft8 = one32

@@ -1,0 +1,5 @@
+pub mod Magnitudes
+pub mod Cells
+pub mod CellSlots
+pub mod CellColumns
+pub mod OneColumn

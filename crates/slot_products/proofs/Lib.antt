@@ -1,0 +1,3 @@
+pub mod ProductLoops
+pub mod ProductColumns
+pub mod ProductTurn
