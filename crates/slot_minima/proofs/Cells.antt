@@ -9,12 +9,12 @@ use Prim.Native.Nat.{ℕ, zero, suc, _<_}
 use native.Mathlib.Omega.{arith}
 use lib.Dec.{T}
 use lib.ListN.{length, getD}
-use lib.Ieee.{Float, nan, inf, fin, binary32, fits, neg, lt, eq}
-use Rattle.softmath.specs.Single.{zero32, foldFrom}
+use lib.Ieee.{Float, nan, binary32, fits, lt, eq}
+use Rattle.softmath.specs.Single.{foldFrom}
 use Rattle.softmath.specs.Functions.{magnitudeOf}
 use Rattle.softmath.specs.CheckNode.{turned, minSum}
 use Rattle.softmath.specs.Others.{lesserOf, turnedBy, othersSum}
-use Rattle.softmath.proofs.ByOthers.{answersFrom, others-shared, same-answers}
+use Rattle.softmath.proofs.ByOthers.{answersFrom, others-shared, own-sign-out, same-answers}
 use Rattle.slot_minima.specs.Cells.{Cell, Fit, more, fresh, leastWith, secondWith, noted, notedAll, pick, answerTo}
 use Rattle.slot_minima.proofs.Magnitudes.{Mag, infinite, Sized, unknown, known, sized, equal-same}
 use Rattle.slot_minima.proofs.Magnitudes.{level-same, equal-self, not-self, not-both, below-upper, lower-below, under-infinity, not-negative}
@@ -162,33 +162,6 @@ sign-all : (vs : List Float) (t : Cell) → (notedAll t vs) .sign ≡ foldFrom t
 unfolding notedAll foldFrom noted
 sign-all [] t = refl
 sign-all (v ∷ vs) t = sign-all vs (noted t v)
-
-neg-twice : (s : Float) → neg (neg s) ≡ s
-unfolding neg
-neg-twice nan = refl
-neg-twice (inf true) = refl
-neg-twice (inf false) = refl
-neg-twice (fin true m e) = refl
-neg-twice (fin false m e) = refl
-
-turn-twice : (b : Bool) (s : Float) → cond b (neg (cond b (neg s) s)) (cond b (neg s) s) ≡ s
-turn-twice true s = neg-twice s
-turn-twice false s = refl
-
-turns-swap : (b c : Bool) (s : Float) → cond b (neg (cond c (neg s) s)) (cond c (neg s) s) ≡ cond c (neg (cond b (neg s) s)) (cond b (neg s) s)
-turns-swap true true s = refl
-turns-swap true false s = refl
-turns-swap false true s = refl
-turns-swap false false s = refl
-
--- a sign that is turned by x, before the others or after them
-turned-last : (x s : Float) (vs : List Float) → foldFrom turnedBy (turned x s) vs ≡ turned x (foldFrom turnedBy s vs)
-unfolding foldFrom
-turned-last x s [] = refl
-turned-last x s (y ∷ vs) = ap (λ (g : Float). foldFrom turnedBy g vs) (turns-swap (lt y zero32) (lt x zero32) s) ∙ turned-last x (turned y s) vs
-
-own-sign-out : (x s : Float) (vs : List Float) → turned x (foldFrom turnedBy (turned x s) vs) ≡ foldFrom turnedBy s vs
-own-sign-out x s vs = rw (turned-last x s vs) (turn-twice (lt x zero32) (foldFrom turnedBy s vs))
 
 -- ---- the answers
 

@@ -220,7 +220,7 @@ unfolding foldFrom
 turned-last x s [] = refl
 turned-last x s (y ∷ ys) = ap (λ (g : Float). foldFrom turnedBy g ys) (turns-swap (lt y zero32) (lt x zero32) s) ∙ turned-last x (turned y s) ys
 
-own-sign-out : (x s : Float) (xs : List Float) → turned x (foldFrom turnedBy (turned x s) xs) ≡ foldFrom turnedBy s xs
+pub own-sign-out : (x s : Float) (xs : List Float) → turned x (foldFrom turnedBy (turned x s) xs) ≡ foldFrom turnedBy s xs
 own-sign-out x s xs = rw (turned-last x s xs) (turn-twice (lt x zero32) (foldFrom turnedBy s xs))
 
 -- ---- the loop of the second engine
