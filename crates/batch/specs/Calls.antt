@@ -1,19 +1,23 @@
 -- The batch (document 01, "The batch"): what is handed over, when it is refused, and what it writes otherwise.
 use mathlib.Core.Path.{_≡_}
-use mathlib.Core.Bool.{Bool, not, cond, _||_}
-use mathlib.Core.List.{List, [], _∷_, _++_, map}
-use Prim.Native.Nat.{ℕ, _+_, _*_}
-use lib.Dec.{eqb, ltb}
+use mathlib.Core.Bool.{cond}
+use mathlib.Core.List.{List, map}
+use Prim.Native.Nat.{ℕ}
+use lib.Dec.{eqb}
 use lib.Ieee.{Float}
 use lib.ListN.{length}
-use Rattle.refusal.specs.Outcome.{Outcome, Condition, _when_, judged, kept}
+use Rattle.refusal.specs.Outcome.{Outcome, Condition, judged, kept}
 use Rattle.tanner.specs.Checks.{First, check, none}
 use Rattle.tanner.specs.Flat.{joined}
 use Rattle.belief.specs.Rounds.{Decode, roundsRun, chosenCount, chosenFirst, chosenBits}
 use Rattle.belief.specs.Area.{cleared}
-use Rattle.batch.specs.Codes.{sizeN, sizeK, decodeOf}
+use Rattle.batch.specs.Codes.{sizeK, decodeOf}
 use Rattle.batch.specs.Pairs.{Pair, framesOf}
-use Rattle.batch.specs.declared.Room.{Room}
+use Rattle.batch_refusals.specs.declared.Room.{Room}
+-- Which refusals a batch has, and in what order, is defined in crate `batch_refusals` (specs/Refusals.antt): `refusalsOf` is first `headRefusals`, the
+-- numbers and the lengths (1, 2, 3 by `ruleNotOfCode`, 7, 8, 9), and then `pairRefusals`, the pairs one after another, each by `pairTests` (10, 11, 12).
+pub use Rattle.batch_refusals.specs.Refusals.{pairTests, headRefusals}
+unfoldable pub use Rattle.batch_refusals.specs.Refusals.{pairRefusals, ruleNotOfCode, refusalsOf}
 
 -- ---- what is handed over
 
@@ -51,46 +55,11 @@ batch code rule limit scale values pairs memory = record {
 
 -- ---- refusals
 
--- "10: pair length not N", "11: offset below the end of the pair before", "12: pair ends past the values"
-abbrev pub pairTests : ℕ → ℕ → ℕ → Pair → List Condition
-pairTests n values end p =
-    (10 when not (eqb (p .size) n))
-    ∷ (11 when ltb (p .offset) end)
-    ∷ (12 when ltb values (p .offset + p .size))
-    ∷ []
-
--- "tested pair by pair". `end` is the end of the pair before, 0 at the first pair.
-unfoldable pub pairRefusals : ℕ → ℕ → ℕ → List Pair → List Condition
-pairRefusals n values end [] = []
-pairRefusals n values end (p ∷ ps) = pairTests n values end p ++ pairRefusals n values (p .offset + p .size) ps
-
--- change request N3: "3 when code 3 comes with rule 1 or 2 or another code with rule 4"
-unfoldable pub ruleNotOfCode : ℕ → ℕ → Bool
-ruleNotOfCode code rule = cond (eqb code 3) (eqb rule 1 || eqb rule 2) (eqb rule 4)
-
 -- how many places are lent for each
 abbrev pub roomOf : Lent → Room
 roomOf l = record { bits = length (l .bits); counts = length (l .counts); rounds = length (l .rounds); firsts = length (l .firsts); work = length (l .work) }
 
--- 1 code not 0-3, 2 rule above 4, 3 a rule not of the code, 7 over 24 pairs, 8 an output not exactly its length ("pairs times K bytes
--- and one count place a pair"; N1 and N8: one place a pair), 9 work area too short
-abbrev pub headRefusals : ℕ → ℕ → ℕ → Room → List Condition
-headRefusals code rule pairs room =
-    (1 when ltb 3 code)
-    ∷ (2 when ltb 4 rule)
-    ∷ (3 when ruleNotOfCode code rule)
-    ∷ (7 when ltb 24 pairs)
-    ∷ (8 when not (eqb (room .bits) (pairs * sizeK code)))
-    ∷ (8 when not (eqb (room .counts) pairs))
-    ∷ (8 when not (eqb (room .rounds) pairs))
-    ∷ (8 when not (eqb (room .firsts) pairs))
-    ∷ (9 when ltb (room .work) 3070)
-    ∷ []
-
--- "Lowest number first": these, and then the pairs, which name parts of so many values
-unfoldable pub refusalsOf : ℕ → ℕ → ℕ → List Pair → Room → List Condition
-refusalsOf code rule values pairs room = headRefusals code rule (length pairs) room ++ pairRefusals (sizeN code) values 0 pairs
-
+-- those of a batch, in the order in which they are tested: "Lowest number first" (`refusalsOf` above)
 abbrev pub refusals : Batch → List Condition
 refusals b = refusalsOf (b .code) (b .rule) (length (b .values)) (b .pairs) (roomOf (b .memory))
 

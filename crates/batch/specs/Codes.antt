@@ -9,12 +9,9 @@ use Rattle.tanner.specs.Checks.{Word}
 use Rattle.softmath.specs.declared.DecodeRule.{DecodeRule}
 use Rattle.belief.specs.Rounds.{Decode}
 use Rattle.decoders.specs.Decodes.{ruleOf, staircaseDecode, ft8Decode}
--- N, a frame's values, and K, its message bits: "91 for code 3"
-pub use Rattle.passes.specs.Codes.{byCode}
-unfoldable pub use Rattle.passes.specs.Codes.{sizeN}
-
-unfoldable pub sizeK : ℕ → ℕ
-sizeK code = byCode code (λ c. c .k) 91
+-- N, a frame's values, and K, its message bits: defined in crate `batch_refusals` (specs/Codes.antt)
+pub use Rattle.batch_refusals.specs.Codes.{byCode}
+unfoldable pub use Rattle.batch_refusals.specs.Codes.{sizeN, sizeK}
 
 -- the decode of a frame's values by a check step
 unfoldable pub decodeBy : ℕ → DecodeRule → List Float → Decode

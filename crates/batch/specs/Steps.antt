@@ -1,38 +1,18 @@
 -- The batch step by step: one pair tested, one frame decoded to its place. These are what the loops over the pairs are made of, and no promise to a
--- customer: `proofs/Pairs.antt` and `proofs/Frames.antt` carry them to `Calls.antt`.
+-- customer: `proofs/Pairs.antt` of `batch_refusals` and `proofs/Frames.antt` carry them to `Calls.antt`.
 use mathlib.Core.Path.{_≡_}
 use mathlib.Core.List.{List, _++_}
 use Prim.Native.Nat.{ℕ, _+_, _*_, _<_, _≤_}
 use lib.Ieee.{Float}
 use lib.ListN.{length, take, drop, set}
-use Rattle.refusal.specs.Outcome.{Outcome, accepted, refused, judged}
-use Rattle.refusal.specs.Numbers.{numberOf}
 use Rattle.belief.specs.Rounds.{Decode, roundsRun, chosenCount, chosenFirst, chosenBits}
 use Rattle.belief.specs.Area.{cleared}
 use Rattle.batch.specs.Codes.{sizeN, sizeK}
-use Rattle.batch.specs.Pairs.{Pair, AllWithin}
-use Rattle.batch.specs.Calls.{Lent, Batch, pairTests, placeOf}
-use Rattle.batch.specs.declared.Seen.{Seen}
-use Rattle.batch.specs.declared.Seen.the-variants.{Until, Refused}
-
--- ---- the pairs
-
--- what the pairs so far come to: where the last of them ends, or a refusal
-abbrev pub seenOf : Seen → Outcome ℕ
-seenOf (Until end) = accepted end
-seenOf (Refused r) = refused (numberOf r)
-
--- with one pair more
-unfoldable pub nextSeen : ℕ → ℕ → Outcome ℕ → Pair → Outcome ℕ
-nextSeen n values (accepted end) p = judged (pairTests n values end p) (p .offset + p .size)
-nextSeen n values (refused k) p = refused k
-
--- where no pair is left
-abbrev pub seenAll : Outcome ℕ → Outcome Unit
-seenAll (accepted end) = accepted tt
-seenAll (refused k) = refused k
-
--- ---- the frames
+use Rattle.batch.specs.Pairs.{AllWithin}
+use Rattle.batch.specs.Calls.{Lent, Batch, placeOf}
+-- one pair tested: defined in crate `batch_refusals` (specs/Steps.antt)
+pub use Rattle.batch_refusals.specs.Steps.{seenOf, seenAll}
+unfoldable pub use Rattle.batch_refusals.specs.Steps.{nextSeen}
 
 -- what is known of a batch that is not refused
 pub record Fitting (b : Batch) : Type 0 where

@@ -10,7 +10,7 @@ use Rattle.refusal.proofs.Judged.{verdict, nothing}
 use Rattle.batch.specs.Codes.{sizeN, sizeK}
 use Rattle.batch.specs.Pairs.{AllWithin}
 use Rattle.batch.specs.Calls.{ruleNotOfCode, refusalsOf}
-use Rattle.batch.specs.declared.Room.{Room}
+use Rattle.batch_refusals.specs.declared.Room.{Room}
 use Rattle.batch.proofs.Whole.{all-good, all-inside}
 use Rattle.batch_figures.specs.Results.{Results, resultRefusals}
 

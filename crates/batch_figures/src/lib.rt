@@ -1,5 +1,5 @@
 // Reception figures of batches: what a batch's call left, added to a total.
-use batch::Room;
+use batch_refusals::Room;
 use belief::WORK;
 use figures::Summed;
 use figures::Totals;
@@ -36,7 +36,7 @@ fn results_fault(
         firsts: pairs.len() / 2,
         work: WORK,
     };
-    batch::batch_fault(code, 0, values.len(), pairs, room)
+    batch_refusals::batch_fault(code, 0, values.len(), pairs, room)
 }
 
 // ---- the frames

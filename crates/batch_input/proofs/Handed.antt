@@ -14,7 +14,7 @@ use Rattle.refusal.proofs.Judged.{verdict, nothing}
 use Rattle.batch.specs.Codes.{sizeK}
 use Rattle.batch.specs.Pairs.{pairsOf}
 use Rattle.batch.specs.Calls.{roomOf, refusalsOf, refusals}
-use Rattle.batch.specs.declared.Room.{Room}
+use Rattle.batch_refusals.specs.declared.Room.{Room}
 use Rattle.batch.proofs.Pairs.{pairs-length}
 use Rattle.batch.proofs.Whole.{all-good}
 use Rattle.batch_input.specs.Input.{codeOf, ruleOf, pairCount, pairNumbers, valuesOf, u32At, u32sFrom}

@@ -27,8 +27,8 @@ pub fn clean_at(
     ensures { λ r. ⌜ r ≡ cleanOf code (framesOf (now (values .entry)) (pairsOf (now (pairs .entry)))) (now (counts .entry)) (now (bits .entry)) j ⌝ }
 {
     let from = pairs[j * 2] as usize;
-    let to = from + batch::frame_values(code);
-    let k = batch::message_bits(code);
+    let to = from + batch_refusals::frame_values(code);
+    let k = batch_refusals::message_bits(code);
     let at = j * k;
     let end = at + k;
     clean::is_clean(code, &values[from..to], counts[j], &bits[at..end])
@@ -42,10 +42,10 @@ pub fn frame_clean(code: u32, values: &[f32], count: u16, bits: &[u8]) -> Answer
     if code > 3 {
         return Answer::Refused(Refusal::UnknownCode);
     }
-    if values.len() != batch::frame_values(code) {
+    if values.len() != batch_refusals::frame_values(code) {
         return Answer::Refused(Refusal::InputLength);
     }
-    if bits.len() != batch::message_bits(code) {
+    if bits.len() != batch_refusals::message_bits(code) {
         return Answer::Refused(Refusal::InputLength);
     }
     if clean::is_clean(code, values, count, bits) {

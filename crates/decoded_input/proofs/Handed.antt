@@ -12,7 +12,7 @@ use Rattle.refusal.proofs.Judged.{verdict, nothing}
 use Rattle.batch.specs.Codes.{sizeN, sizeK}
 use Rattle.batch.specs.Pairs.{pairsOf, AllWithin}
 use Rattle.batch.specs.Calls.{Lent, Batch, batch, roomOf, refusals, written, Answered}
-use Rattle.batch.specs.declared.Room.{Room}
+use Rattle.batch_refusals.specs.declared.Room.{Room}
 use Rattle.batch.proofs.Sizes.{product-small}
 use Rattle.batch.proofs.Whole.{all-inside, accepted-left}
 use Rattle.batch_input.specs.Input.{codeOf, ruleOf, limitOf, scaleOf, pairCount, pairNumbers, valuesOf}

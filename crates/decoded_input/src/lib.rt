@@ -95,7 +95,7 @@ pub fn decode_fronts(
         Fronts (now (input .entry)) (now (bits .exit)) (now (counts .exit)) (now (rounds .exit)) (now (firsts .exit))) ⌝ }
 {
     let n = frames_held(batch_input::pair_count(input));
-    let size = n * batch::message_bits(input[0] as u32);
+    let size = n * batch_refusals::message_bits(input[0] as u32);
     let mut work = [0.0f32; WORK];
     if let Status::Refused(r) = decode_input(
         input,

@@ -1,6 +1,6 @@
 // A batch with a list of group sizes: the frames of a move are delivered together, or none of them is.
-use batch::MOST_PAIRS;
-use batch::Room;
+use batch_refusals::MOST_PAIRS;
+use batch_refusals::Room;
 use refusal::Status;
 ghost use mathlib.Core.Path.{_≡_};
 ghost use mathlib.Core.List.{_++_};
@@ -29,7 +29,7 @@ fn groups_fault(
     ensures { λ r. ⌜ statusOf r ≡ judged
         (refusalsOf code rule values (pairsOf (now (pairs .entry))) room ++ sizeRefusals (length (pairsOf (now (pairs .entry)))) (now (sizes .entry))) tt ⌝ }
 {
-    if let Status::Refused(r) = batch::batch_fault(code, rule, values, pairs, room) {
+    if let Status::Refused(r) = batch_refusals::batch_fault(code, rule, values, pairs, room) {
         return Status::Refused(r);
     }
     grouping::sizes_fault(pairs.len() / 2, sizes)
@@ -82,7 +82,7 @@ fn deliver_groups(
     let n = pairs.len() / 2;
     let mut clean = [false; MOST_PAIRS];
     clean_list(code, values, pairs, counts, bits, &mut clean[..n]);
-    grouping::close_groups(batch::message_bits(code), sizes, &clean[..n], bits);
+    grouping::close_groups(batch_refusals::message_bits(code), sizes, &clean[..n], bits);
 }
 
 // ---- the call

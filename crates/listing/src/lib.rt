@@ -92,7 +92,7 @@ fn frame_lines(
         0 (length (pairsOf (now (pairs .entry)))))
         (now (out .exit)) r ⌝ }
 {
-    let k = batch::message_bits(code);
+    let k = batch_refusals::message_bits(code);
     let mut next = at;
     let mut from = 0;
     let mut j = 0;

@@ -125,10 +125,10 @@ pub fn frame_reason(
     if rule > 4 {
         return Explained::Refused(Refusal::UnknownRule);
     }
-    if batch::rule_not_of_code(code, rule) {
+    if batch_refusals::rule_not_of_code(code, rule) {
         return Explained::Refused(Refusal::RuleNotOfCode);
     }
-    let n = batch::frame_values(code);
+    let n = batch_refusals::frame_values(code);
     if values.len() != n {
         return Explained::Refused(Refusal::InputLength);
     }

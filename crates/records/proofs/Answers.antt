@@ -16,7 +16,7 @@ use Rattle.refusal.proofs.Judged.{verdict, nothing}
 use Rattle.batch.specs.Codes.{sizeN}
 use Rattle.batch.specs.Calls.{Lent, Batch, headRefusals, pairRefusals, refusalsOf, refusals, written, Answered}
 use Rattle.batch.specs.Steps.{nextSeen, seenAll}
-use Rattle.batch.specs.declared.Room.{Room}
+use Rattle.batch_refusals.specs.declared.Room.{Room}
 use Rattle.batch.proofs.Pairs.{seenFrom, seen-more, seen-last}
 use Rattle.batch.proofs.Whole.{head-refused, head-passed, turned-down, carried-out}
 use Rattle.records.specs.declared.Pair.{Pair}

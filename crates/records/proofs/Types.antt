@@ -2,10 +2,10 @@
 use Rattle.walks.proofs.Plain.{Plain, struct, enum}
 use Rattle.refusal.proofs.Status as S
 use Rattle.refusal.proofs.Status.Laws as S′
-use Rattle.batch.proofs.Seen as N
-use Rattle.batch.proofs.Seen.Laws as N′
-use Rattle.batch.proofs.Room as R
-use Rattle.batch.proofs.Room.Laws as R′
+use Rattle.batch_refusals.proofs.Seen as N
+use Rattle.batch_refusals.proofs.Seen.Laws as N′
+use Rattle.batch_refusals.proofs.Room as R
+use Rattle.batch_refusals.proofs.Room.Laws as R′
 use Rattle.records.specs.declared.Pair.{Pair}
 use Rattle.records.proofs.Pair as P
 use Rattle.records.proofs.Pair.Laws as P′

@@ -1,7 +1,7 @@
 // The batch over a lent list of pair records. They are read where they lie, by a thin check and a thin batch call: a record at a time, which is
 // taken by value from there on. Crate `batch` does the work.
-use batch::Room;
-use batch::Seen;
+use batch_refusals::Room;
+use batch_refusals::Seen;
 use refusal::Status;
 ghost use mathlib.Core.Path.{_≡_};
 ghost use Rattle.refusal.specs.Outcome.{judged};
@@ -34,7 +34,7 @@ fn turned_down(status: Status) -> bool
 fn next_record(seen: Seen, n: usize, values: usize, p: Pair) -> Seen
     ensures { λ r. ⌜ seenOf r ≡ nextSeen n values (seenOf seen) (pairOf p) ⌝ }
 {
-    batch::next_pair(seen, n, values, p.offset, p.length)
+    batch_refusals::next_pair(seen, n, values, p.offset, p.length)
 }
 
 // The check: whether a batch over these records is turned down, and by which number. The records are read where the numbers and the lengths,
@@ -42,11 +42,11 @@ fn next_record(seen: Seen, n: usize, values: usize, p: Pair) -> Seen
 pub fn batch_fault(code: u32, rule: u32, values: usize, pairs: &[Pair], room: Room) -> Status
     ensures { λ r. ⌜ statusOf r ≡ judged (refusalsOf code rule values (pairsOf (now (pairs .entry))) room) tt ⌝ }
 {
-    let head = batch::head_fault(code, rule, pairs.len(), room);
+    let head = batch_refusals::head_fault(code, rule, pairs.len(), room);
     if turned_down(head) {
         return head;
     }
-    let n = batch::frame_values(code);
+    let n = batch_refusals::frame_values(code);
     let mut seen = Seen::Until(0);
     let mut i = 0;
     while i < pairs.len() {
@@ -54,7 +54,7 @@ pub fn batch_fault(code: u32, rule: u32, values: usize, pairs: &[Pair], room: Ro
         seen = next_record(seen, n, values, p);
         i += 1;
     }
-    batch::seen_all(seen)
+    batch_refusals::seen_all(seen)
 }
 
 // The frame of one record, decoded to place j of each output.

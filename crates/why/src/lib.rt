@@ -1,5 +1,5 @@
 // Why a frame of a batch is open, as a line of text: the program's input read, and what is printed for it written into a lent buffer.
-use batch::Room;
+use batch_refusals::Room;
 use belief::WORK;
 use refusal::Refusal;
 use refusal::Status;
@@ -35,13 +35,13 @@ fn input_fault(place: u16, input: &[u8], values: &[f32], pairs: &[u32]) -> Statu
     let head = batch_input::read_header(input);
     let frames = batch_input::pair_count(input);
     let room = Room {
-        bits: frames * batch::message_bits(head.code),
+        bits: frames * batch_refusals::message_bits(head.code),
         counts: frames,
         rounds: frames,
         firsts: frames,
         work: WORK,
     };
-    if let Status::Refused(r) = batch::batch_fault(
+    if let Status::Refused(r) = batch_refusals::batch_fault(
         head.code,
         head.rule,
         values.len(),
@@ -72,7 +72,7 @@ fn explain(place: u16, input: &[u8], values: &[f32], pairs: &[u32], out: &mut [u
     let code = head.code;
     let j = place as usize;
     let from = pairs[j * 2] as usize;
-    let n = batch::frame_values(code);
+    let n = batch_refusals::frame_values(code);
     let to = from + n;
     let mut word = word_room();
     let mut work = [0.0f32; WORK];

@@ -43,27 +43,27 @@ use Rattle.walks.proofs.Frame.{forgets-from, returns-all, returns-early, goes-p
 use Rattle.walks.proofs.Lend.{Handle, handle, counted, Shared}
 use Rattle.walks.proofs.Loans.{Loan, hand, pass-slice, LastValues, own-args, gathers, scatters}
 use Rattle.walks.proofs.Walk.{Post, Walk, walking, meets-by}
-use Rattle.batch.proofs.Seen as N
-use Rattle.batch.proofs.Seen.Laws as N′
-use Rattle.batch.specs.declared.Room.{Room}
-use Rattle.batch.specs.declared.Seen.{Seen}
-use Rattle.batch.specs.declared.Seen.the-variants.{Until}
+use Rattle.batch_refusals.proofs.Seen as N
+use Rattle.batch_refusals.proofs.Seen.Laws as N′
+use Rattle.batch_refusals.specs.declared.Room.{Room}
+use Rattle.batch_refusals.specs.declared.Seen.{Seen}
+use Rattle.batch_refusals.specs.declared.Seen.the-variants.{Until}
 use Rattle.batch.specs.Codes.{sizeN}
 use Rattle.batch.specs.Calls.{headRefusals, pairRefusals}
 use Rattle.batch.specs.Steps.{seenOf, nextSeen, seenAll}
 use Rattle.batch.proofs.Pairs.{seenFrom, seen-pairs}
-use Rattle.batch.proofs.head_fault as head
-use Rattle.batch.proofs.head_fault.Symbol as head-def
-use Rattle.batch.proofs.head_fault.Symbol.{name as #batch·head-fault}
-use Rattle.batch.proofs.head_fault.Met as head-thm
-use Rattle.batch.proofs.frame_values as values-of
-use Rattle.batch.proofs.frame_values.Symbol as values-def
-use Rattle.batch.proofs.frame_values.Symbol.{name as #batch·frame-values}
-use Rattle.batch.proofs.frame_values.Met as values-thm
-use Rattle.batch.proofs.seen_all as all
-use Rattle.batch.proofs.seen_all.Symbol as all-def
-use Rattle.batch.proofs.seen_all.Symbol.{name as #batch·seen-all}
-use Rattle.batch.proofs.seen_all.Met as all-thm
+use Rattle.batch_refusals.proofs.head_fault as head
+use Rattle.batch_refusals.proofs.head_fault.Symbol as head-def
+use Rattle.batch_refusals.proofs.head_fault.Symbol.{name as #batch-refusals·head-fault}
+use Rattle.batch_refusals.proofs.head_fault.Met as head-thm
+use Rattle.batch_refusals.proofs.frame_values as values-of
+use Rattle.batch_refusals.proofs.frame_values.Symbol as values-def
+use Rattle.batch_refusals.proofs.frame_values.Symbol.{name as #batch-refusals·frame-values}
+use Rattle.batch_refusals.proofs.frame_values.Met as values-thm
+use Rattle.batch_refusals.proofs.seen_all as all
+use Rattle.batch_refusals.proofs.seen_all.Symbol as all-def
+use Rattle.batch_refusals.proofs.seen_all.Symbol.{name as #batch-refusals·seen-all}
+use Rattle.batch_refusals.proofs.seen_all.Met as all-thm
 use Rattle.records.specs.declared.Pair.{Pair}
 use Rattle.records.specs.Fields.{pairOf, pairsOf, isRefused}
 use Rattle.records.proofs.Answers.{down, good, tells, one-checked, all-checked, refused-by, by-pairs}
@@ -105,11 +105,11 @@ module _ {n values : ℕ} {ys : List Pair} where
 
 -- ---- the walk
 module _ {M : Type 1} (𝓤 : URA M) (H : Heap 𝓤) (A : Atoms 𝓤) (W : Given 𝓤 H A) (mem : Memory → SProp 𝓤) (run : Routine → Fun 𝓤) (𝓣 : Tables 𝓤 H)
-    (known-head : Triple 𝓤 (𝓣 .C #batch·head-fault) (Callee 𝓤 H A head.ended (head.clauses 𝓤 H A mem run)))
+    (known-head : Triple 𝓤 (𝓣 .C #batch-refusals·head-fault) (Callee 𝓤 H A head.ended (head.clauses 𝓤 H A mem run)))
     (known-down : Triple 𝓤 (𝓣 .C #records·turned-down) (Callee 𝓤 H A down-of.ended (down-of.clauses 𝓤 H A mem run)))
-    (known-values : Triple 𝓤 (𝓣 .C #batch·frame-values) (Callee 𝓤 H A values-of.ended (values-of.clauses 𝓤 H A mem run)))
+    (known-values : Triple 𝓤 (𝓣 .C #batch-refusals·frame-values) (Callee 𝓤 H A values-of.ended (values-of.clauses 𝓤 H A mem run)))
     (known-next : Triple 𝓤 (𝓣 .C #records·next-record) (Callee 𝓤 H A next.ended (next.clauses 𝓤 H A mem run)))
-    (known-all : Triple 𝓤 (𝓣 .C #batch·seen-all) (Callee 𝓤 H A all.ended (all.clauses 𝓤 H A mem run))) where
+    (known-all : Triple 𝓤 (𝓣 .C #batch-refusals·seen-all) (Callee 𝓤 H A all.ended (all.clauses 𝓤 H A mem run))) where
   module _ (pairs : Handle) (code rule values : ℕ) (ys : List Pair) (r : Room) (code-is : Is (nat w32 .row) code (vint w32 code ∷ []))
       (rule-is : Is (nat w32 .row) rule (vint w32 rule ∷ [])) (values-fit : values < 2 ^ 64) (ys-fit : Fits (pair .row) (length ys))
       (room-is : Is (room .row) r (room .val r ∷ [])) where
@@ -214,13 +214,13 @@ batch-fault-spec 𝓤 H 𝓜 𝓖 𝓡 =
     entered 𝓤 H (tripleOf 𝓤 H (𝓖 .A) this.signature (this.spec 𝓤 H (𝓖 .A) (𝓜 .mem) (𝓡 .run)))
     (tables 𝓤 H 𝓜 𝓡 code-of.env .C) (tables 𝓤 H 𝓜 𝓡 code-of.env .Λ) #records·batch-fault code-of.function (code-of.unfolded 𝓤 H 𝓜 𝓡)
     (meets 𝓤 H (𝓖 .A) (givenOf 𝓤 H 𝓜 𝓖) (𝓜 .mem) (𝓡 .run) (tablesOf 𝓤 H 𝓜 (tables 𝓤 H 𝓜 𝓡 code-of.env))
-    (cited 𝓤 H (Callee 𝓤 H (𝓖 .A) head.ended (head.clauses 𝓤 H (𝓖 .A) (𝓜 .mem) (𝓡 .run))) 𝓜 𝓡 code-of.env #batch·head-fault head-def.routine
-    code-of.calls-batch·head-fault (head-thm.met 𝓤 H 𝓜 𝓖 𝓡))
+    (cited 𝓤 H (Callee 𝓤 H (𝓖 .A) head.ended (head.clauses 𝓤 H (𝓖 .A) (𝓜 .mem) (𝓡 .run))) 𝓜 𝓡 code-of.env #batch-refusals·head-fault head-def.routine
+    code-of.calls-batch-refusals·head-fault (head-thm.met 𝓤 H 𝓜 𝓖 𝓡))
     (cited 𝓤 H (Callee 𝓤 H (𝓖 .A) down-of.ended (down-of.clauses 𝓤 H (𝓖 .A) (𝓜 .mem) (𝓡 .run))) 𝓜 𝓡 code-of.env #records·turned-down down-def.routine
     code-of.calls-records·turned-down (down-thm.met 𝓤 H 𝓜 𝓖 𝓡))
-    (cited 𝓤 H (Callee 𝓤 H (𝓖 .A) values-of.ended (values-of.clauses 𝓤 H (𝓖 .A) (𝓜 .mem) (𝓡 .run))) 𝓜 𝓡 code-of.env #batch·frame-values values-def.routine
-    code-of.calls-batch·frame-values (values-thm.met 𝓤 H 𝓜 𝓖 𝓡))
+    (cited 𝓤 H (Callee 𝓤 H (𝓖 .A) values-of.ended (values-of.clauses 𝓤 H (𝓖 .A) (𝓜 .mem) (𝓡 .run))) 𝓜 𝓡 code-of.env #batch-refusals·frame-values
+    values-def.routine code-of.calls-batch-refusals·frame-values (values-thm.met 𝓤 H 𝓜 𝓖 𝓡))
     (cited 𝓤 H (Callee 𝓤 H (𝓖 .A) next.ended (next.clauses 𝓤 H (𝓖 .A) (𝓜 .mem) (𝓡 .run))) 𝓜 𝓡 code-of.env #records·next-record next-def.routine
     code-of.calls-records·next-record (next-thm.met 𝓤 H 𝓜 𝓖 𝓡))
-    (cited 𝓤 H (Callee 𝓤 H (𝓖 .A) all.ended (all.clauses 𝓤 H (𝓖 .A) (𝓜 .mem) (𝓡 .run))) 𝓜 𝓡 code-of.env #batch·seen-all all-def.routine
-    code-of.calls-batch·seen-all (all-thm.met 𝓤 H 𝓜 𝓖 𝓡)))
+    (cited 𝓤 H (Callee 𝓤 H (𝓖 .A) all.ended (all.clauses 𝓤 H (𝓖 .A) (𝓜 .mem) (𝓡 .run))) 𝓜 𝓡 code-of.env #batch-refusals·seen-all all-def.routine
+    code-of.calls-batch-refusals·seen-all (all-thm.met 𝓤 H 𝓜 𝓖 𝓡)))

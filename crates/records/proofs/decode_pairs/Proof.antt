@@ -33,8 +33,8 @@ use Rattle.walks.proofs.Calls.{Callee, calls}
 use Rattle.walks.proofs.Frame.{begins, count, var, loc, args, sets, stores, stores-plain, passes-on, returns-all, returns-early, goes-past}
 use Rattle.walks.proofs.Loans.{Loan, hand, give, pass-slice, lent-args, takes, calls-lent, own-args, gathers, scatters}
 use Rattle.walks.proofs.Walk.{Walk, walking, meets-by}
-use Rattle.batch.proofs.Room as R
-use Rattle.batch.proofs.Room.Laws as R′
+use Rattle.batch_refusals.proofs.Room as R
+use Rattle.batch_refusals.proofs.Room.Laws as R′
 use Rattle.batch.specs.Calls.{Lent, Batch, roomOf, refusals, written}
 use Rattle.batch.proofs.Whole.{fitting}
 use Rattle.records.specs.declared.Pair.{Pair}

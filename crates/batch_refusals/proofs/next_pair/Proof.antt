@@ -1,14 +1,14 @@
--- `batch::next_pair` meets its contract: a refusal stays, and after a good pair the test of this one decides. Assumes nothing.
+-- `batch_refusals::next_pair` meets its contract: a refusal stays, and after a good pair the test of this one decides. Assumes nothing.
 use mathlib.Core.Path.{_≡_, sym, ap, _∙_}
 use Rattle.refusal.specs.Answers.{statusOf}
 use Rattle.refusal.proofs.Judged.{verdict}
-use Rattle.batch.specs.Pairs.{Pair, pair}
-use Rattle.batch.specs.Calls.{pairTests}
-use Rattle.batch.specs.Steps.{seenOf, nextSeen}
-use Rattle.batch.proofs.Pairs.{pair-bad, pair-good}
+use Rattle.batch_refusals.specs.Pairs.{Pair, pair}
+use Rattle.batch_refusals.specs.Refusals.{pairTests}
+use Rattle.batch_refusals.specs.Steps.{seenOf, nextSeen}
+use Rattle.batch_refusals.proofs.Pairs.{pair-bad, pair-good}
 use borrow.Author.Needs.{needs}
-use Rattle.batch.proofs.next_pair.Statement.{statement}
-use Rattle.batch.proofs.next_pair.Tie as tie
+use Rattle.batch_refusals.proofs.next_pair.Statement.{statement}
+use Rattle.batch_refusals.proofs.next_pair.Tie as tie
 
 -- the good pairs so far, and this one
 abbrev good : tie.After-pair-fault → tie.After-seen

@@ -1,9 +1,9 @@
--- `batch::seen_all` meets its contract, case by case. Assumes nothing.
+-- `batch_refusals::seen_all` meets its contract, case by case. Assumes nothing.
 use mathlib.Core.Path.{sym, ap}
-use Rattle.batch.specs.Steps.{seenOf, seenAll}
+use Rattle.batch_refusals.specs.Steps.{seenOf, seenAll}
 use borrow.Author.Needs.{needs}
-use Rattle.batch.proofs.seen_all.Statement.{statement}
-use Rattle.batch.proofs.seen_all.Tie as tie
+use Rattle.batch_refusals.proofs.seen_all.Statement.{statement}
+use Rattle.batch_refusals.proofs.seen_all.Tie as tie
 
 enum-told : tie.Need-enum-told
 enum-told c = search needs

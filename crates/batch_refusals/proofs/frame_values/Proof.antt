@@ -1,9 +1,9 @@
--- `batch::frame_values` meets its contract, code by code. Assumes nothing.
+-- `batch_refusals::frame_values` meets its contract, code by code. Assumes nothing.
 use mathlib.Core.Path.{_∙_}
-use Rattle.batch.proofs.Sizes.{values-ft8, values-staircase}
+use Rattle.batch_refusals.proofs.Sizes.{values-ft8, values-staircase}
 use borrow.Author.Needs.{needs}
-use Rattle.batch.proofs.frame_values.Statement.{statement}
-use Rattle.batch.proofs.frame_values.Tie as tie
+use Rattle.batch_refusals.proofs.frame_values.Statement.{statement}
+use Rattle.batch_refusals.proofs.frame_values.Tie as tie
 
 returns : tie.Need-returns
 returns c = values-ft8 _ (c .if1 .taken)

@@ -1,16 +1,16 @@
--- `batch::batch_fault` meets its contract: the numbers and lengths, and then the pairs. Assumes nothing.
+-- `batch_refusals::batch_fault` meets its contract: the numbers and lengths, and then the pairs. Assumes nothing.
 use mathlib.Core.Path.{_≡_, sym, ap, _∙_}
 use Prim.Native.Nat.{ℕ}
 use lib.ListN.{length}
 use Rattle.refusal.specs.Answers.{statusOf}
 use Rattle.refusal.proofs.Judged.{verdict}
-use Rattle.batch.specs.Pairs.{pairsOf}
-use Rattle.batch.specs.Calls.{headRefusals, pairRefusals}
-use Rattle.batch.proofs.Pairs.{pairs-length}
-use Rattle.batch.proofs.Whole.{head-refused, head-passed}
+use Rattle.batch_refusals.specs.Pairs.{pairsOf}
+use Rattle.batch_refusals.specs.Refusals.{headRefusals, pairRefusals}
+use Rattle.batch_refusals.proofs.Pairs.{pairs-length}
+use Rattle.batch_refusals.proofs.Whole.{head-refused, head-passed}
 use borrow.Author.Needs.{needs}
-use Rattle.batch.proofs.batch_fault.Statement.{statement}
-use Rattle.batch.proofs.batch_fault.Tie as tie
+use Rattle.batch_refusals.proofs.batch_fault.Statement.{statement}
+use Rattle.batch_refusals.proofs.batch_fault.Tie as tie
 
 abbrev entry : tie.After-head-fault → tie.Start
 entry c = c .before .before

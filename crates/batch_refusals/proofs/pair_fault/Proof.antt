@@ -1,8 +1,8 @@
--- `batch::pair_fault` meets its contract, test by test. Assumes nothing.
+-- `batch_refusals::pair_fault` meets its contract, test by test. Assumes nothing.
 use borrow.Author.Tests.{lt-ltb, le-ltb, eq-eqb, ne-eqb}
 use borrow.Author.Needs.{needs}
-use Rattle.batch.proofs.pair_fault.Statement.{statement}
-use Rattle.batch.proofs.pair_fault.Tie as tie
+use Rattle.batch_refusals.proofs.pair_fault.Statement.{statement}
+use Rattle.batch_refusals.proofs.pair_fault.Tie as tie
 
 returns : tie.Need-returns
 returns c = simp (ne-eqb _ _ (c .if1 .taken))

@@ -1,16 +1,16 @@
--- `batch::pairs_fault` meets its contract. The invariant: what the pairs that are left come to is what all come to. Assumes nothing.
+-- `batch_refusals::pairs_fault` meets its contract. The invariant: what the pairs that are left come to is what all come to. Assumes nothing.
 use mathlib.Core.Path.{_≡_, _∙_}
 use Prim.Native.Nat.{_-_, _≤_}
 use native.Mathlib.Omega.{arith}
 use lib.ListN.{length, drop}
 use Rattle.refusal.proofs.Judged.{verdict}
-use Rattle.batch.specs.Pairs.{pairsOf}
-use Rattle.batch.specs.Calls.{pairRefusals}
-use Rattle.batch.specs.Steps.{seenOf}
-use Rattle.batch.proofs.Pairs.{seenFrom, seen-pairs, seen-more, seen-last, pairs-next, pairs-done}
+use Rattle.batch_refusals.specs.Pairs.{pairsOf}
+use Rattle.batch_refusals.specs.Refusals.{pairRefusals}
+use Rattle.batch_refusals.specs.Steps.{seenOf}
+use Rattle.batch_refusals.proofs.Pairs.{seenFrom, seen-pairs, seen-more, seen-last, pairs-next, pairs-done}
 use borrow.Author.Needs.{needs}
-use Rattle.batch.proofs.pairs_fault.Statement.{statement}
-use Rattle.batch.proofs.pairs_fault.Tie as tie
+use Rattle.batch_refusals.proofs.pairs_fault.Statement.{statement}
+use Rattle.batch_refusals.proofs.pairs_fault.Tie as tie
 
 abbrev Inv-loop : tie.InvT-loop
 Inv-loop n values pairs seen₀ i₀ seen i =

@@ -1,8 +1,8 @@
--- `batch::rule_not_of_code` meets its contract, test by test. Assumes nothing.
+-- `batch_refusals::rule_not_of_code` meets its contract, test by test. Assumes nothing.
 use borrow.Author.Tests.{eq-eqb, ne-eqb}
-use Rattle.batch.specs.Calls.{ruleNotOfCode}
-use Rattle.batch.proofs.rule_not_of_code.Statement.{statement}
-use Rattle.batch.proofs.rule_not_of_code.Tie as tie
+use Rattle.batch_refusals.specs.Refusals.{ruleNotOfCode}
+use Rattle.batch_refusals.proofs.rule_not_of_code.Statement.{statement}
+use Rattle.batch_refusals.proofs.rule_not_of_code.Tie as tie
 
 returns : tie.Need-returns
 unfolding ruleNotOfCode

@@ -1,9 +1,9 @@
--- `batch::message_bits` meets its contract, code by code. Assumes nothing.
+-- `batch_refusals::message_bits` meets its contract, code by code. Assumes nothing.
 use mathlib.Core.Path.{_∙_}
-use Rattle.batch.proofs.Sizes.{bits-ft8, bits-staircase}
+use Rattle.batch_refusals.proofs.Sizes.{bits-ft8, bits-staircase}
 use borrow.Author.Needs.{needs}
-use Rattle.batch.proofs.message_bits.Statement.{statement}
-use Rattle.batch.proofs.message_bits.Tie as tie
+use Rattle.batch_refusals.proofs.message_bits.Statement.{statement}
+use Rattle.batch_refusals.proofs.message_bits.Tie as tie
 
 returns : tie.Need-returns
 returns c = bits-ft8 _ (c .if1 .taken)

@@ -1,16 +1,16 @@
--- `batch::head_fault` meets its contract, test by test. Assumes nothing.
+-- `batch_refusals::head_fault` meets its contract, test by test. Assumes nothing.
 use mathlib.Core.Path.{_≡_, sym, ap, _∙_}
 use mathlib.Core.Bool.{false, true}
 use borrow.Author.Tests.{lt-ltb, le-ltb, eq-eqb, ne-eqb}
 use native.Mathlib.Omega.{arith}
 use Prim.Native.Nat.{ℕ, _*_}
 use lib.Dec.{eqb, ltb}
-use Rattle.batch.specs.Codes.{sizeK}
-use Rattle.batch.specs.Calls.{ruleNotOfCode}
-use Rattle.batch.proofs.Sizes.{product-small}
+use Rattle.batch_refusals.specs.Codes.{sizeK}
+use Rattle.batch_refusals.specs.Refusals.{ruleNotOfCode}
+use Rattle.batch_refusals.proofs.Sizes.{product-small}
 use borrow.Author.Needs.{needs}
-use Rattle.batch.proofs.head_fault.Statement.{statement}
-use Rattle.batch.proofs.head_fault.Tie as tie
+use Rattle.batch_refusals.proofs.head_fault.Statement.{statement}
+use Rattle.batch_refusals.proofs.head_fault.Tie as tie
 
 -- ---- the tests that were passed, one after another
 
