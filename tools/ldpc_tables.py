@@ -4,9 +4,10 @@
     ORION_SRC=folder python3 tools/ldpc_tables.py crates/ldpc
 
 ORION_SRC names a folder that holds the Rust's ldpc.rs. Written are src/tables.rt (the constants of the code), specs/Tables.antt
-(the Rust's four tables as lists), proofs/Arrays.antt (the arrays of the Tanner graph as lists) and proofs/CheckSets.antt (the
-checks to add up for each parity bit). The graph's arrays and the sets are worked out here from NM and NUM_ROWS; that they are right
-is proved in proofs/Graph.antt, BySlots.antt and Codewords.antt, and nothing rests on this script. Run `rt fmt` afterwards.
+(the Rust's four tables as lists), proofs/Arrays.antt (the arrays of the Tanner graph as lists) and, beside them, proofs/CheckSets.antt
+of crates/codewords (the checks to add up for each parity bit). The graph's arrays and the sets are worked out here from NM and
+NUM_ROWS; that they are right is proved in proofs/Graph.antt and BySlots.antt, and in Codewords.antt of crates/codewords, and nothing
+rests on this script. Run `rt fmt` afterwards.
 """
 import os
 import re
@@ -100,7 +101,7 @@ def main():
             f.write("\n" + listed(note, spelled, t, 20, "%d"))
 
     rows = [check_bits[check_start[c]:check_start[c + 1]] for c in range(83)]
-    with open(os.path.join(crate, "proofs/CheckSets.antt"), "w", encoding="utf-8") as f:
+    with open(os.path.join(crate, "../codewords/proofs/CheckSets.antt"), "w", encoding="utf-8") as f:
         f.write(head("-- For each parity bit, the checks that add up to its generator row; `Codewords.antt` shows that they do, by computation.\n"
                      "-- Written by tools/ldpc_tables.py.\n"))
         f.write("\n" + listed("A number for each of the 83 parity bits: its binary digit c, the lowest being 0, is 1 where check c is added.",

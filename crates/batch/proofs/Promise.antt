@@ -18,7 +18,7 @@ use Rattle.staircase.specs.Codes.{codeOf, columns, checks}
 use Rattle.staircase.specs.Staircase.{encoded}
 use Rattle.staircase.proofs.EdgeCount.{columns-length}
 use Rattle.ldpc_codes.proofs.Codewords.{count-encoded, zero-count-encoded}
-use Rattle.ldpc.proofs.PackedWords.{codewords}
+use Rattle.codewords.proofs.PackedWords.{codewords}
 use Rattle.refusal.specs.Outcome.{Outcome}
 use Rattle.refusal.proofs.Judged.{verdict, nothing}
 use Rattle.softmath.specs.declared.DecodeRule.{DecodeRule}

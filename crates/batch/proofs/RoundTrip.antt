@@ -17,7 +17,7 @@ use Rattle.staircase.proofs.EdgeCount.{columns-length}
 use Rattle.ldpc_codes.proofs.Codewords.{count-encoded}
 use Rattle.ldpc.specs.Code174 as ft8
 use Rattle.ldpc.specs.Encoding.{encodeBits}
-use Rattle.ldpc.proofs.PackedWords.{codewords, encoding-length, encoding-front}
+use Rattle.codewords.proofs.PackedWords.{codewords, encoding-length, encoding-front}
 use Rattle.softmath.specs.Functions.{decide}
 use Rattle.softmath.specs.declared.DecodeRule.{DecodeRule}
 use Rattle.belief.specs.Rounds.{Decode, initialWord, roundWords, chosenFrom, chosen, chosenCount, chosenFirst, chosenBits, roundsRun}

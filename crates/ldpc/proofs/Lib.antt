@@ -7,9 +7,5 @@ pub mod Codeword
 pub mod Agreement
 pub mod Counting
 pub mod Cases
-pub mod CheckSets
-pub mod Span
-pub mod Codewords
-pub mod PackedWords
 pub mod Sevens
 pub mod BySlots

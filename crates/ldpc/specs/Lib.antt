@@ -5,5 +5,4 @@ pub mod Encoding
 pub mod Calls
 pub mod Bytes
 pub mod Cases
-pub mod Codewords
 pub mod Rows

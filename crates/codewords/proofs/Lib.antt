@@ -1,0 +1,4 @@
+pub mod CheckSets
+pub mod Span
+pub mod Codewords
+pub mod PackedWords
