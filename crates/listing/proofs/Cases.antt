@@ -18,7 +18,7 @@ use Rattle.batch.specs.Pairs.{pairsOf, frameOf}
 use Rattle.batch.specs.Calls.{ruleNotOfCode, pairRefusals, refusalsOf, written}
 use Rattle.clean.specs.Clean.{anyNan, checksumRight, frameClean}
 use Rattle.text.specs.Text.{leading, decimal, byteAt, hexDigit, hexFrom, hex, field, refusalLine}
-use Rattle.listing.specs.Lines.{headLine, cleanOrOpen, firstField, frameLine, linesFrom}
+use Rattle.lines.specs.Lines.{headLine, cleanOrOpen, firstField, frameLine, linesFrom}
 use Rattle.batch_input.specs.Input.{u32sFrom, floatOf, pairNumbers, valuesOf, malformed}
 use Rattle.listing.specs.Listing.{framesText, listingOf}
 

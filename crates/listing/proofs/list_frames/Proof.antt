@@ -16,7 +16,7 @@ use Rattle.batch_input.proofs.Wellformed.{wellformed}
 use Rattle.decoded_input.specs.Fronts.{sizesOf, decodedOf, Fronts}
 use Rattle.decoded_input.proofs.Answers.{judged-turned}
 use Rattle.decoded_input.proofs.Handed.{sizes-given, front, Accepted, accepted-input}
-use Rattle.listing.proofs.Lines.{refused-line, accepted-short, fronts-text}
+use Rattle.listing.proofs.Listing.{refused-line, accepted-short, fronts-text}
 use borrow.Author.Needs.{needs}
 use Rattle.listing.proofs.list_frames.Statement.{statement}
 use Rattle.listing.proofs.list_frames.Tie as tie

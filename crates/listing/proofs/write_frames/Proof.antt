@@ -7,9 +7,9 @@ use lib.ListN.{length}
 use Rattle.text.proofs.Put.{then, room-left}
 use Rattle.batch.specs.Pairs.{pairsOf}
 use Rattle.batch_input.specs.Input.{codeOf, ruleOf, limitOf}
-use Rattle.listing.specs.Lines.{headLine}
+use Rattle.lines.specs.Lines.{headLine}
+use Rattle.lines.proofs.Lengths.{head-short}
 use Rattle.listing.specs.Listing.{framesText}
-use Rattle.listing.proofs.Lengths.{head-short}
 use borrow.Author.Needs.{needs}
 use Rattle.listing.proofs.write_frames.Statement.{statement}
 use Rattle.listing.proofs.write_frames.Tie as tie

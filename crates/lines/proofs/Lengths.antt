@@ -1,5 +1,4 @@
--- The lengths of the listing's texts, as sums over their parts, and their bounds: a frame has at most 384 bits, and there are at most 24 frames. Assumes
--- nothing.
+-- The lengths of the lines, as sums over their parts, and their bounds: a frame has at most 384 bits. Assumes nothing.
 use mathlib.Core.Path.{_≡_}
 use mathlib.Core.Bool.{Bool, true, false, cond}
 use mathlib.Core.List.{List, []}
@@ -9,7 +8,7 @@ use lib.Dec.{eqb, lit≤}
 use lib.ListN.{length, length-append}
 use Rattle.text.specs.Text.{space, decimal, hex, field}
 use Rattle.text.proofs.Lengths.{decimal-short, field-length, hex-length}
-use Rattle.listing.specs.Lines.{codeWord, ruleWord, limitWord, framesWord, headLine, cleanOrOpen, firstField, frameLine, linesFrom}
+use Rattle.lines.specs.Lines.{codeWord, ruleWord, limitWord, framesWord, headLine, cleanOrOpen, firstField, frameLine, linesFrom}
 
 pub head-length : (code rule limit frames : ℕ) → length (headLine code rule limit frames)
     ≡ length (field codeWord code) + (length (field ruleWord rule) + (length (field limitWord limit) + (length (field framesWord frames) + 1)))

@@ -1,14 +1,14 @@
--- `listing::head_line` meets its contract: the fields are written one after the other, and after each there is room for the rest. Assumes nothing.
+-- `lines::head_line` meets its contract: the fields are written one after the other, and after each there is room for the rest. Assumes nothing.
 use Prim.Native.Nat.{ℕ, _+_, _≤_}
 use native.Mathlib.Omega.{arith}
 use lib.ListN.{length}
 use Rattle.text.specs.Text.{field}
 use Rattle.text.proofs.Put.{then, room-left}
-use Rattle.listing.specs.Lines.{codeWord, ruleWord, limitWord, framesWord, headLine}
-use Rattle.listing.proofs.Lengths.{head-length}
+use Rattle.lines.specs.Lines.{codeWord, ruleWord, limitWord, framesWord, headLine}
+use Rattle.lines.proofs.Lengths.{head-length}
 use borrow.Author.Needs.{needs}
-use Rattle.listing.proofs.head_line.Statement.{statement}
-use Rattle.listing.proofs.head_line.Tie as tie
+use Rattle.lines.proofs.head_line.Statement.{statement}
+use Rattle.lines.proofs.head_line.Tie as tie
 
 -- ---- places of the walk: after each writer
 

@@ -1,14 +1,14 @@
--- `listing::frame_line` meets its contract: the fields are written one after the other, and after each there is room for the rest. Assumes nothing.
+-- `lines::frame_line` meets its contract: the fields are written one after the other, and after each there is room for the rest. Assumes nothing.
 use Prim.Native.Nat.{ℕ, _+_, _≤_}
 use native.Mathlib.Omega.{arith}
 use lib.ListN.{length}
 use Rattle.text.specs.Text.{space, decimal, field, hex}
 use Rattle.text.proofs.Put.{then, room-left}
-use Rattle.listing.specs.Lines.{frameLine, cleanOrOpen, firstField}
-use Rattle.listing.proofs.Lengths.{frame-length}
+use Rattle.lines.specs.Lines.{frameLine, cleanOrOpen, firstField}
+use Rattle.lines.proofs.Lengths.{frame-length}
 use borrow.Author.Needs.{needs}
-use Rattle.listing.proofs.frame_line.Statement.{statement}
-use Rattle.listing.proofs.frame_line.Tie as tie
+use Rattle.lines.proofs.frame_line.Statement.{statement}
+use Rattle.lines.proofs.frame_line.Tie as tie
 
 -- ---- places of the walk: after each writer
 

@@ -1,10 +1,10 @@
--- `listing::first_field` meets its contract: nothing where the count is 0, else the field. Assumes nothing.
+-- `lines::first_field` meets its contract: nothing where the count is 0, else the field. Assumes nothing.
 use borrow.Author.Tests.{eq-eqb, ne-eqb}
 use Rattle.text.proofs.Put.{nothing}
-use Rattle.listing.specs.Lines.{firstField}
+use Rattle.lines.specs.Lines.{firstField}
 use borrow.Author.Needs.{needs}
-use Rattle.listing.proofs.first_field.Statement.{statement}
-use Rattle.listing.proofs.first_field.Tie as tie
+use Rattle.lines.proofs.first_field.Statement.{statement}
+use Rattle.lines.proofs.first_field.Tie as tie
 
 returns : tie.Need-returns
 unfolding firstField

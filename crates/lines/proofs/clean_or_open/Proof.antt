@@ -1,8 +1,8 @@
--- `listing::clean_or_open` meets its contract. Each word is one branch. Assumes nothing.
-use Rattle.listing.specs.Lines.{cleanOrOpen}
+-- `lines::clean_or_open` meets its contract. Each word is one branch. Assumes nothing.
+use Rattle.lines.specs.Lines.{cleanOrOpen}
 use borrow.Author.Needs.{needs}
-use Rattle.listing.proofs.clean_or_open.Statement.{statement}
-use Rattle.listing.proofs.clean_or_open.Tie as tie
+use Rattle.lines.proofs.clean_or_open.Statement.{statement}
+use Rattle.lines.proofs.clean_or_open.Tie as tie
 
 slice-aggregate-put-text : tie.Need-slice-aggregate-put-text
 slice-aggregate-put-text c = search needs

@@ -1,5 +1,6 @@
--- `listing::frame_lines` meets its contract. The invariant: with the lines that are left put where the loop stands, the buffer holds them all. Assumes nothing.
+-- `lines::frame_lines` meets its contract. The invariant: with the lines that are left put where the loop stands, the buffer holds them all. Assumes nothing.
 use mathlib.Core.Path.{_≡_, sym, ap, _∙_}
+use mathlib.Core.Bool.{Bool}
 use mathlib.Core.List.{List, [], _++_}
 use Prim.Native.Nat.{ℕ, _+_, _-_, _*_, _≤_, _<_}
 use native.Mathlib.Nat.{suc-mul, zero-mul, sub-zero}
@@ -12,12 +13,14 @@ use Rattle.batch.specs.Codes.{sizeK}
 use Rattle.batch.specs.Pairs.{pairsOf, framesOf}
 use Rattle.batch.specs.Calls.{Lent, lent}
 use Rattle.batch.proofs.Frames.{place-fits}
-use Rattle.listing.specs.Lines.{frameLine, lineAt, linesFrom}
-use Rattle.listing.proofs.Lengths.{lines-short}
-use Rattle.listing.proofs.Lines.{lines-more, lines-none, line-is, line-short}
+use Rattle.clean_frames.specs.CleanFrames.{cleanOf}
+use Rattle.clean_frames.proofs.FrameAt.{bits-at}
+use Rattle.lines.specs.Lines.{frameLine, lineAt, linesFrom}
+use Rattle.lines.proofs.Lengths.{lines-short}
+use Rattle.lines.proofs.Lines.{lines-more, lines-none, line-short}
 use borrow.Author.Needs.{needs}
-use Rattle.listing.proofs.frame_lines.Statement.{statement}
-use Rattle.listing.proofs.frame_lines.Tie as tie
+use Rattle.lines.proofs.frame_lines.Statement.{statement}
+use Rattle.lines.proofs.frame_lines.Tie as tie
 
 abbrev Inv-loop : tie.InvT-loop
 Inv-loop out₀ at code values pairs bits counts rounds firsts k next₀ from₀ j₀ out next from j =
@@ -137,6 +140,15 @@ shared-slice-read-frame-line-3 : tie.Need-shared-slice-read-frame-line-3 Inv-loo
 shared-slice-read-frame-line-3 c =
     let i = c .before .before .before .before .before .before in
     omega (arith, place-at i, start (i .before) .pre .1 .1 .1 .0 .1)
+
+-- the line of a frame, as it is written: its bits begin at `from`
+line-is : (code : ℕ) (fs : List (List Float)) (l : Lent) (j from k : ℕ) (clean : Bool) → from ≡ j * k → k ≡ sizeK code
+    → clean ≡ cleanOf code fs (l .counts) (l .bits) j
+    → frameLine j (getD (l .counts) j 0) (getD (l .rounds) j 0) clean (take (from + k - from) (drop from (l .bits))) (getD (l .firsts) j 0) ≡ lineAt code fs l j
+line-is code fs l j from k clean e s c =
+    rw (e, c)
+    (ap (λ (b : List ℕ). frameLine j (getD (l .counts) j 0) (getD (l .rounds) j 0) (cleanOf code fs (l .counts) (l .bits) j) b (getD (l .firsts) j 0))
+    (bits-at (l .bits) j k (sizeK code) s))
 
 -- the line that is written is that of the frame at place j
 same-line : (c : tie.After-clean-at Inv-loop μ-loop) → let l = c .before .before in let a = start l .args in let j = l .loop .j in
