@@ -3,5 +3,4 @@ pub mod Pairs
 pub mod Frames
 pub mod Whole
 pub mod Promise
-pub mod Cases
 pub mod RoundTrip

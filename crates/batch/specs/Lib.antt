@@ -3,5 +3,4 @@ pub mod Pairs
 pub mod Calls
 pub mod Steps
 pub mod Promise
-pub mod Cases
 pub mod RoundTrip

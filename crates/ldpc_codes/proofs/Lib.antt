@@ -1,3 +1,2 @@
 pub mod Codewords
 pub mod Laid
-pub mod Cases

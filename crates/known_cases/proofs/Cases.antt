@@ -9,11 +9,11 @@ use Rattle.crc.proofs.Cases.{checksum-cases}
 use Rattle.ldpc.specs.Tables.{nm, numRows}
 use Rattle.ldpc.specs.Code174.{checks, rowsOfSeven}
 use Rattle.ldpc.proofs.Cases.{code-cases}
-use Rattle.ldpc_codes.proofs.Cases.{cases0, cases1, cases2}
+use Rattle.known_cases.proofs.Staircase.{cases0, cases1, cases2}
 use Rattle.belief.specs.Rounds.{initialWord, wordsFrom, roundWords, chosenFrom, chosen, chosenCount, chosenBits}
 use Rattle.softmath.specs.declared.DecodeRule.the-variants.{Ft8}
 use Rattle.decoders.specs.Decodes.{ft8Decode}
-use Rattle.batch.specs.Cases.{minusZeros, nans, table, Yields}
+use Rattle.known_cases.specs.Cases.{minusZeros, nans, table, Yields}
 
 -- at limit 0 the initial word is chosen
 ones : chosenBits (ft8Decode Ft8 minusZeros) 0 174 ≡ replicate 174 1

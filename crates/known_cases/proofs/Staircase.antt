@@ -1,9 +1,9 @@
--- Document 01's cases of the staircase count, for each of the three codes: "last bit alone: 1", "Bit K alone: 2", "Message bit 0 alone: 3, but 0 if its byte is
--- 2".
+-- Document 01's cases of the staircase count, for each of the three codes: "last bit alone: 1", "Bit K alone: 2",
+-- "Message bit 0 alone: 3, but 0 if its byte is 2".
 -- A word with one bit counts the checks that name its place an odd number of times, which is computed from the checks.
 use mathlib.Core.Path.{_≡_, refl, _∙_}
 use mathlib.Core.Bool.{Bool, true, false, cond}
-use mathlib.Core.List.{List, [], _∷_, _++_}
+use mathlib.Core.List.{List, [], _∷_}
 use Prim.Native.Nat.{ℕ, zero, suc, _+_, _-_, _%_, _≤_}
 use native.Mathlib.Omega.{arith}
 use borrow.Author.Tests.{ne-eqb}
@@ -14,17 +14,14 @@ use Rattle.construction.specs.Columns.{times, holds}
 use Rattle.tanner.specs.Checks.{Word, Checks, parity, count, lowBits}
 use Rattle.tanner.proofs.Count.{low-at}
 use Rattle.staircase.specs.Staircase.{taps, parityEntries, checkRow, checkRows}
 use Rattle.ldpc_codes.specs.Calls.{syndromeBy}
 use Rattle.staircase.specs.Codes.{codeOf, checks}
 use Rattle.slots.specs.Layout.{threes}
 use Rattle.staircase.proofs.Rows.{rows0, rows1, rows2}
 use Rattle.staircase.proofs.N512R12.{checks-right0}
 use Rattle.staircase.proofs.N576R23.{checks-right1}
 use Rattle.staircase.proofs.N512R34.{checks-right2}
-
--- the byte x at place p, with q zeros after it
-abbrev pub alone : ℕ → ℕ → ℕ → List ℕ
-alone p x q = replicate p 0 ++ (x ∷ replicate q 0)
+use Rattle.known_cases.specs.Cases.{alone}
 
 zero-getD : (n i : ℕ) → getD (replicate {A = ℕ} n 0) i 0 ≡ 0
 zero-getD zero i = refl
@@ -135,7 +132,3 @@ cases2 = record {
   messageBit = one-alone (checks (codeOf 2)) 512 0 511 refl ∙ odd2 0;
   byteTwo = two-alone (checks (codeOf 2)) 512 0 511 refl;
 }
-
--- every (P) case of the staircase count
-pub staircase-cases : Cases 0 256 256 × (Cases 1 384 192 × Cases 2 384 128)
-staircase-cases = (cases0, (cases1, cases2))

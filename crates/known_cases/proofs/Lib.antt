@@ -1,0 +1,2 @@
+pub mod Staircase
+pub mod Cases
