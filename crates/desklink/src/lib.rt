@@ -20,7 +20,7 @@ ghost use Rattle.batch.specs.Pairs.{pairsOf};
 ghost use Rattle.batch.specs.Calls as batch·calls;
 ghost use Rattle.records.specs.Fields as records·fields;
 ghost use Rattle.eighths.specs.Calls.{bytesRefusals, valuesRefusals, valuesOf, bytesOf};
-ghost use Rattle.erasure.specs.Filling.{filledWord, filledPlaces, listed};
+ghost use Rattle.filling.specs.Filling.{filledWord, filledPlaces, listed};
 ghost use Rattle.erasure.specs.Calls.{checksBy, erasureRefusals};
 ghost use Rattle.cycles.specs.Calls.{cycleRefusals, reportBy, writtenBy};
 ghost use Rattle.packing.specs.Packing.{packedWord, unpackedWord, packRefusals, unpackRefusals};

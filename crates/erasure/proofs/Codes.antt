@@ -21,10 +21,10 @@ use Rattle.ldpc.specs.Agreement.{times}
 use Rattle.ldpc.specs.Code174 as code174
 use Rattle.ldpc.proofs.Agreement.{agreed}
 use Rattle.ldpc.proofs.Graph.{checks-low}
-use Rattle.erasure.specs.Promise.{named, NoneTwice, Fills}
+use Rattle.filling.specs.Promise.{named, NoneTwice, Fills}
 use Rattle.erasure.specs.Calls.{checksBy}
-use Rattle.erasure.proofs.Named.{named-cons, named-none, named-fresh, named-append, named-other, named-past}
-use Rattle.erasure.proofs.Laws.{fills}
+use Rattle.filling.proofs.Named.{named-cons, named-none, named-fresh, named-append, named-other, named-past}
+use Rattle.filling.proofs.Laws.{fills}
 
 -- ---- the staircase codes
 

@@ -15,11 +15,11 @@ use Rattle.staircase.specs.Staircase.{taps, parityEntries, checkRow, checksOf}
 use Rattle.staircase.specs.Codes as staircase
 use Rattle.staircase.proofs.Positions.{taps-below, row-at}
 use Rattle.staircase.proofs.EdgeCount.{columns-length}
-use Rattle.erasure.specs.Filling.{filledWord}
-use Rattle.erasure.specs.Promise.{named, OnlyUnknown, Agrees, Fills}
-use Rattle.erasure.proofs.Named.{named-none, named-head, named-append, named-other, named-past}
+use Rattle.filling.specs.Filling.{filledWord}
+use Rattle.filling.specs.Promise.{named, OnlyUnknown, Agrees, Fills}
+use Rattle.filling.proofs.Named.{named-none, named-head, named-append, named-other, named-past}
 use Rattle.erasure.proofs.Codes.{columns-once}
-use Rattle.erasure.proofs.Laws.{fills}
+use Rattle.filling.proofs.Laws.{fills}
 
 -- the first k bits of a word, and m unknown ones
 abbrev pub erased : ℕ → ℕ → Word → Word

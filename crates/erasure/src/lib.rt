@@ -1,12 +1,11 @@
-// Mending: the unknown bits of a recorded word that its code's checks decide, one after another.
+// Mending: the unknown bits of a recorded word that its code's checks decide, for the four codes by number.
 ghost use mathlib.Core.Path.{_≡_};
-ghost use Prim.Native.Nat.{_<_};
 ghost use lib.ListN.{length};
 ghost use Rattle.refusal.specs.Outcome.{judged, kept};
 ghost use Rattle.refusal.specs.Answers.{answerOf};
-ghost use Rattle.tanner.specs.Flat.{Below, FlatChecks, rowsOf};
-ghost use Rattle.erasure.specs.Filling.{settingIn, lowest, filledWord, filledPlaces, listed};
-ghost use Rattle.erasure.specs.Calls.{nextOf, checksBy, aboveTwo, wordRefusals, erasureRefusals};
+ghost use Rattle.filling.specs.Filling.{filledWord, filledPlaces, listed};
+ghost use Rattle.filling.specs.Calls.{FilledAs};
+ghost use Rattle.erasure.specs.Calls.{checksBy, erasureRefusals};
 use construction::codes::N512R12;
 use construction::codes::N512R34;
 use construction::codes::N576R23;
@@ -21,113 +20,51 @@ use staircase::tables::N512R34_CHECK_STARTS;
 use staircase::tables::N576R23_CHECK_BITS;
 use staircase::tables::N576R23_CHECK_STARTS;
 
-// What is set next: nothing, or a position and its bit.
-pub enum Next {
-    Nothing,
-    At(u16, u8),
+// A word of each code. Its tables are named by a function of their own: a constant is laid where the function that names it starts.
+fn fill_n512r12(word: &mut [u8], places: &mut [u16]) -> Answer
+    ensures { λ r. ⌜ FilledAs (erasureRefusals 0 (now (word .entry)) (now (places .entry))) (checksBy 0)
+        (now (word .entry)) (now (places .entry)) (answerOf r) (now (word .exit)) (now (places .exit)) ⌝ }
+{
+    filling::fill_over(
+        &N512R12_CHECK_STARTS,
+        &N512R12_CHECK_BITS,
+        N512R12::N,
+        word,
+        places,
+    )
 }
 
-// Whether a byte is above 2.
-fn above_two(word: &[u8]) -> bool
-    ensures { λ r. ⌜ r ≡ aboveTwo (now (word .entry)) ⌝ }
+fn fill_n576r23(word: &mut [u8], places: &mut [u16]) -> Answer
+    ensures { λ r. ⌜ FilledAs (erasureRefusals 1 (now (word .entry)) (now (places .entry))) (checksBy 1)
+        (now (word .entry)) (now (places .entry)) (answerOf r) (now (word .exit)) (now (places .exit)) ⌝ }
 {
-    let mut i = 0;
-    while i < word.len() {
-        if word[i] > 2 {
-            return true;
-        }
-        i += 1;
-    }
-    false
+    filling::fill_over(
+        &N576R23_CHECK_STARTS,
+        &N576R23_CHECK_BITS,
+        N576R23::N,
+        word,
+        places,
+    )
 }
 
-// The unknown bit of a check that has exactly one. All its bytes are XORed: the unknown one is 2, and has no part in the low bit.
-fn next_in(positions: &[u16], word: &[u8]) -> Next
-    requires { ⌜ Below (length (now word)) (now positions) ⌝ }
-    ensures { λ r. ⌜ nextOf r ≡ settingIn (now (positions .entry)) (now (word .entry)) ⌝ }
+fn fill_n512r34(word: &mut [u8], places: &mut [u16]) -> Answer
+    ensures { λ r. ⌜ FilledAs (erasureRefusals 2 (now (word .entry)) (now (places .entry))) (checksBy 2)
+        (now (word .entry)) (now (places .entry)) (answerOf r) (now (word .exit)) (now (places .exit)) ⌝ }
 {
-    let mut unknowns: usize = 0;
-    let mut at: u16 = 0;
-    let mut odd: u8 = 0;
-    let mut i = 0;
-    while i < positions.len() {
-        let p = positions[i] as usize;
-        if word[p] == 2 {
-            unknowns += 1;
-            at = positions[i];
-        }
-        odd = odd ^ word[p];
-        i += 1;
-    }
-    if unknowns == 1 {
-        return Next::At(at, odd % 2);
-    }
-    Next::Nothing
+    filling::fill_over(
+        &N512R34_CHECK_STARTS,
+        &N512R34_CHECK_BITS,
+        N512R34::N,
+        word,
+        places,
+    )
 }
 
-// The unknown bit of the lowest-numbered check that has exactly one.
-fn next_setting(starts: &[u16], flat: &[u16], word: &[u8]) -> Next
-    requires { ⌜ FlatChecks (now starts) (now flat) (length (now word)) ⌝ }
-    ensures { λ r. ⌜ nextOf r ≡ lowest (rowsOf (now (starts .entry)) (now (flat .entry))) (now (word .entry)) ⌝ }
+fn fill_ft8(word: &mut [u8], places: &mut [u16]) -> Answer
+    ensures { λ r. ⌜ FilledAs (erasureRefusals 3 (now (word .entry)) (now (places .entry))) (checksBy 3)
+        (now (word .entry)) (now (places .entry)) (answerOf r) (now (word .exit)) (now (places .exit)) ⌝ }
 {
-    let mut c = 0;
-    while c + 1 < starts.len() {
-        let a = starts[c] as usize;
-        let b = starts[c + 1] as usize;
-        if let Next::At(p, bit) = next_in(&flat[a..b], word) {
-            return Next::At(p, bit);
-        }
-        c += 1;
-    }
-    Next::Nothing
-}
-
-// Sets one bit after another, and lists their positions.
-fn fill(starts: &[u16], flat: &[u16], word: &mut [u8], places: &mut [u16]) -> u16
-    requires { ⌜ FlatChecks (now starts) (now flat) (length (now word)) ⌝ }
-    requires { ⌜ length (now places) ≡ length (now word) ⌝ }
-    requires { ⌜ length (now places) < 65536 ⌝ }
-    ensures { λ r. ⌜ r ≡ length (filledPlaces (rowsOf (now (starts .entry)) (now (flat .entry))) (now (word .entry))) ⌝ }
-    ensures { λ _. ⌜ now (word .exit) ≡ filledWord (rowsOf (now (starts .entry)) (now (flat .entry))) (now (word .entry)) ⌝ }
-    ensures { λ _. ⌜ now (places .exit) ≡ listed (filledPlaces (rowsOf (now (starts .entry)) (now (flat .entry))) (now (word .entry))) (now (places .entry)) ⌝ }
-{
-    let mut n = 0;
-    while n < places.len() {
-        let Next::At(p, bit) = next_setting(starts, flat, word) else {
-            return n as u16;
-        };
-        let at = p as usize;
-        word[at] = bit;
-        places[n] = p;
-        n += 1;
-    }
-    n as u16
-}
-
-// A word of a code of length n, with the lengths and the bytes tested.
-fn fill_over(starts: &[u16], flat: &[u16], n: usize, word: &mut [u8], places: &mut [u16]) -> Answer
-    requires { ⌜ FlatChecks (now starts) (now flat) n ⌝ }
-    requires { ⌜ n < 65536 ⌝ }
-    ensures { λ r. ⌜ answerOf r
-        ≡ judged (wordRefusals n (now (word .entry)) (now (places .entry)))
-        (length (filledPlaces (rowsOf (now (starts .entry)) (now (flat .entry))) (now (word .entry)))) ⌝ }
-    ensures { λ _. ⌜ now (word .exit)
-        ≡ kept (wordRefusals n (now (word .entry)) (now (places .entry))) (now (word .entry))
-        (filledWord (rowsOf (now (starts .entry)) (now (flat .entry))) (now (word .entry))) ⌝ }
-    ensures { λ _. ⌜ now (places .exit)
-        ≡ kept (wordRefusals n (now (word .entry)) (now (places .entry))) (now (places .entry))
-        (listed (filledPlaces (rowsOf (now (starts .entry)) (now (flat .entry))) (now (word .entry))) (now (places .entry))) ⌝ }
-{
-    if word.len() != n {
-        return Answer::Refused(Refusal::InputLength);
-    }
-    if places.len() != n {
-        return Answer::Refused(Refusal::OutputLength);
-    }
-    if above_two(word) {
-        return Answer::Refused(Refusal::ErasureByte);
-    }
-    Answer::Value(fill(starts, flat, word, places))
+    filling::fill_over(&CHECK_STARTS, &CHECK_BITS, ldpc::N, word, places)
 }
 
 // Fills a word of the code with that number: sets the unknown bits that its checks decide, and lists their positions.
@@ -141,34 +78,16 @@ pub fn fill_erasures(code: u32, word: &mut [u8], places: &mut [u16]) -> Answer
         (listed (filledPlaces (checksBy code) (now (word .entry))) (now (places .entry))) ⌝ }
 {
     if code == 0 {
-        return fill_over(
-            &N512R12_CHECK_STARTS,
-            &N512R12_CHECK_BITS,
-            N512R12::N,
-            word,
-            places,
-        );
+        return fill_n512r12(word, places);
     }
     if code == 1 {
-        return fill_over(
-            &N576R23_CHECK_STARTS,
-            &N576R23_CHECK_BITS,
-            N576R23::N,
-            word,
-            places,
-        );
+        return fill_n576r23(word, places);
     }
     if code == 2 {
-        return fill_over(
-            &N512R34_CHECK_STARTS,
-            &N512R34_CHECK_BITS,
-            N512R34::N,
-            word,
-            places,
-        );
+        return fill_n512r34(word, places);
     }
     if code == 3 {
-        return fill_over(&CHECK_STARTS, &CHECK_BITS, 174, word, places);
+        return fill_ft8(word, places);
     }
     Answer::Refused(Refusal::UnknownCode)
 }

@@ -10,9 +10,9 @@ use lib.Dec.{eqb}
 use lib.ListN.{length, getD}
 use Rattle.tanner.specs.Checks.{Word, Checks, parity, count}
 use Rattle.tanner.proofs.Count.{parity-bit}
-use Rattle.erasure.specs.Filling.{unknowns, others, Setting, none, at, settingOf, settingIn, orElse, lowest}
-use Rattle.erasure.specs.Promise.{named, OnlyUnknown}
-use Rattle.erasure.proofs.Named.{named-cons, named-none, named-head, named-tail}
+use Rattle.filling.specs.Filling.{unknowns, others, Setting, none, at, settingOf, settingIn, orElse, lowest}
+use Rattle.filling.specs.Promise.{named, OnlyUnknown}
+use Rattle.filling.proofs.Named.{named-cons, named-none, named-head, named-tail}
 
 -- ---- the check that it is taken from
 

@@ -1,11 +1,11 @@
--- `erasure::fill_over` meets its contract: each refusal by its test, and the word filled. Assumes nothing.
+-- `filling::fill_over` meets its contract: each refusal by its test, and the word filled. Assumes nothing.
 use mathlib.Core.Path.{sym, ap, _∙_}
 use native.Mathlib.Omega.{arith}
 use borrow.Author.Tests.{eq-eqb, ne-eqb}
 use Rattle.refusal.specs.Outcome.{accepted}
 use borrow.Author.Needs.{needs}
-use Rattle.erasure.proofs.fill_over.Statement.{statement}
-use Rattle.erasure.proofs.fill_over.Tie as tie
+use Rattle.filling.proofs.fill_over.Statement.{statement}
+use Rattle.filling.proofs.fill_over.Tie as tie
 
 returns : tie.Need-returns
 returns c = simp (ne-eqb _ _ (c .if1 .taken)) (search needs)

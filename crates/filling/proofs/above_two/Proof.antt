@@ -1,12 +1,12 @@
--- `erasure::above_two` meets its contract. The invariant: whether a byte of the rest is above 2 is whether one is. Assumes nothing.
+-- `filling::above_two` meets its contract. The invariant: whether a byte of the rest is above 2 is whether one is. Assumes nothing.
 use mathlib.Core.Path.{_≡_}
 use Prim.Native.Nat.{_-_, _≤_}
 use lib.ListN.{length, drop}
-use Rattle.erasure.specs.Calls.{aboveTwo}
-use Rattle.erasure.proofs.Steps.{above-found, above-more, above-done}
+use Rattle.filling.specs.Calls.{aboveTwo}
+use Rattle.filling.proofs.Steps.{above-found, above-more, above-done}
 use borrow.Author.Needs.{needs}
-use Rattle.erasure.proofs.above_two.Statement.{statement}
-use Rattle.erasure.proofs.above_two.Tie as tie
+use Rattle.filling.proofs.above_two.Statement.{statement}
+use Rattle.filling.proofs.above_two.Tie as tie
 
 abbrev Inv-loop : tie.InvT-loop
 Inv-loop word i₀ i = (i ≤ length word) × (aboveTwo (drop i word) ≡ aboveTwo word)

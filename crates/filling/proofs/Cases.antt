@@ -2,7 +2,7 @@
 use mathlib.Core.Path.{_≡_, refl}
 use mathlib.Core.List.{[], _∷_}
 use Rattle.tanner.specs.Checks.{Checks, parity}
-use Rattle.erasure.specs.Filling.{unknowns, others, settingIn, lowest, fillBy, filled, filledWord, filledPlaces, listed}
+use Rattle.filling.specs.Filling.{unknowns, others, settingIn, lowest, fillBy, filled, filledWord, filledPlaces, listed}
 
 -- checks 0 1 2 and 2 3
 two : Checks

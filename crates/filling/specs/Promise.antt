@@ -5,7 +5,7 @@ use Prim.Native.Nat.{ℕ, _<_, _≤_}
 use lib.ListN.{length, getD}
 use Rattle.tanner.specs.Checks.{Word, Checks, count}
 use Rattle.tanner.specs.Flat.{Below, places}
-use Rattle.erasure.specs.Filling.{filledWord, filledPlaces}
+use Rattle.filling.specs.Filling.{filledWord, filledPlaces}
 
 -- how often a position is named
 abbrev pub named : ℕ → List ℕ → ℕ

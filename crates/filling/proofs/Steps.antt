@@ -13,9 +13,9 @@ use Rattle.tanner.specs.Checks.{Word, Checks, parity}
 use Rattle.tanner.specs.Flat.{rowsFrom}
 use Rattle.tanner.proofs.Count.{parity-bit}
 use Rattle.tanner.proofs.Steps.{rows-more, rows-done}
-use Rattle.erasure.specs.Filling.{unknowns, Setting, none, at, settingOf, settingIn, lowest, fillBy, filled, filledWord, filledPlaces, listed}
-use Rattle.erasure.specs.Calls.{aboveTwo}
-use Rattle.erasure.proofs.Settings.{setting-parity}
+use Rattle.filling.specs.Filling.{unknowns, Setting, none, at, settingOf, settingIn, lowest, fillBy, filled, filledWord, filledPlaces, listed}
+use Rattle.filling.specs.Calls.{aboveTwo}
+use Rattle.filling.proofs.Settings.{setting-parity}
 
 -- ---- the search for a byte above 2
 

@@ -8,7 +8,7 @@ use borrow.Author.Tests.{eq-eqb, ne-eqb, eqb-true}
 use lib.Dec.{eqb}
 use lib.ListN.{length}
 use Rattle.tanner.specs.Flat.{Below, places}
-use Rattle.erasure.specs.Promise.{named}
+use Rattle.filling.specs.Promise.{named}
 
 -- from whatever place the entries are counted
 counted-from : (p e : ℕ) (c : List ℕ) → length (places p e c) ≡ named p c

@@ -14,10 +14,10 @@ use lib.Seq.{getD-set-same, getD-set-other}
 use Rattle.tanner.specs.Checks.{Word, Checks, count}
 use Rattle.tanner.specs.Flat.{Below}
 use Rattle.tanner.proofs.Below.{below-at}
-use Rattle.erasure.specs.Filling.{Setting, none, at, lowest, fillBy, filled, filledWord, filledPlaces}
-use Rattle.erasure.specs.Promise.{named, NoneTwice, Agrees, Fills}
-use Rattle.erasure.proofs.Named.{named-cons, named-none, named-fresh, named-other}
-use Rattle.erasure.proofs.Settings.{Taken, taken, taken-unknown, taken-inside, taken-bit, taken-right, no-setting, only-set}
+use Rattle.filling.specs.Filling.{Setting, none, at, lowest, fillBy, filled, filledWord, filledPlaces}
+use Rattle.filling.specs.Promise.{named, NoneTwice, Agrees, Fills}
+use Rattle.filling.proofs.Named.{named-cons, named-none, named-fresh, named-other}
+use Rattle.filling.proofs.Settings.{Taken, taken, taken-unknown, taken-inside, taken-bit, taken-right, no-setting, only-set}
 
 -- ---- one setting
 

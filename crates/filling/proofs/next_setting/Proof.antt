@@ -1,16 +1,16 @@
--- `erasure::next_setting` meets its contract. The invariant: the lowest check of the rest is the lowest of all. Assumes nothing.
+-- `filling::next_setting` meets its contract. The invariant: the lowest check of the rest is the lowest of all. Assumes nothing.
 use mathlib.Core.Path.{_≡_, ap}
 use Prim.Native.Nat.{_+_, _-_, _≤_, _<_}
 use native.Mathlib.Omega.{arith}
 use lib.ListN.{length, getD}
 use Rattle.tanner.specs.Flat.{rowsFrom, rowsOf, Within}
 use Rattle.tanner.proofs.Below.{below-part}
-use Rattle.erasure.specs.Filling.{lowest}
-use Rattle.erasure.specs.Calls.{nextOf}
-use Rattle.erasure.proofs.Steps.{lowest-found, lowest-more, lowest-done}
+use Rattle.filling.specs.Filling.{lowest}
+use Rattle.filling.specs.Calls.{nextOf}
+use Rattle.filling.proofs.Steps.{lowest-found, lowest-more, lowest-done}
 use borrow.Author.Needs.{needs}
-use Rattle.erasure.proofs.next_setting.Statement.{statement}
-use Rattle.erasure.proofs.next_setting.Tie as tie
+use Rattle.filling.proofs.next_setting.Statement.{statement}
+use Rattle.filling.proofs.next_setting.Tie as tie
 
 abbrev Inv-loop : tie.InvT-loop
 Inv-loop starts flat word c₀ c = (c < length starts) × (lowest (rowsFrom starts c flat) word ≡ lowest (rowsOf starts flat) word)

@@ -1,13 +1,13 @@
--- `erasure::next_in` meets its contract. The invariant: what is noted of the positions passed, with the rest, is what the check sets. Assumes nothing.
+-- `filling::next_in` meets its contract. The invariant: what is noted of the positions passed, with the rest, is what the check sets. Assumes nothing.
 use mathlib.Core.Logic.{⊎-elim}
 use Prim.Native.Nat.{_-_, _≤_}
 use native.Mathlib.Omega.{arith}
 use lib.ListN.{length}
 use Rattle.tanner.specs.Flat.{Below}
-use Rattle.erasure.proofs.Steps.{Scanned, scan-start, scan-unknown, scan-known, scan-one, scan-none}
+use Rattle.filling.proofs.Steps.{Scanned, scan-start, scan-unknown, scan-known, scan-one, scan-none}
 use borrow.Author.Needs.{needs}
-use Rattle.erasure.proofs.next_in.Statement.{statement}
-use Rattle.erasure.proofs.next_in.Tie as tie
+use Rattle.filling.proofs.next_in.Statement.{statement}
+use Rattle.filling.proofs.next_in.Tie as tie
 
 abbrev Inv-loop : tie.InvT-loop
 Inv-loop positions word unknowns₀ at₀ odd₀ i₀ unknowns at odd i = (i ≤ length positions) × Scanned positions word i unknowns at odd

@@ -1,14 +1,14 @@
--- `erasure::fill` meets its contract. The invariant: what is still to be set, after what is set, is all that is set. Assumes nothing.
+-- `filling::fill` meets its contract. The invariant: what is still to be set, after what is set, is all that is set. Assumes nothing.
 use mathlib.Core.Path.{sym, ap, _∙_}
 use Prim.Native.Nat.{_-_}
 use lib.ListN.{length}
 use Rattle.tanner.specs.Flat.{rowsOf}
-use Rattle.erasure.specs.Calls.{nextOf}
-use Rattle.erasure.proofs.Settings.{taken, taken-inside}
-use Rattle.erasure.proofs.Steps.{Going, going-start, going-more, going-none, going-full}
+use Rattle.filling.specs.Calls.{nextOf}
+use Rattle.filling.proofs.Settings.{taken, taken-inside}
+use Rattle.filling.proofs.Steps.{Going, going-start, going-more, going-none, going-full}
 use borrow.Author.Needs.{needs}
-use Rattle.erasure.proofs.fill.Statement.{statement}
-use Rattle.erasure.proofs.fill.Tie as tie
+use Rattle.filling.proofs.fill.Statement.{statement}
+use Rattle.filling.proofs.fill.Tie as tie
 
 abbrev Inv-loop : tie.InvT-loop
 Inv-loop starts flat word₀ places₀ n₀ word places n = Going (rowsOf starts flat) word₀ places₀ n word places
