@@ -15,7 +15,7 @@ use Rattle.belief.specs.Area.{cleared}
 use Rattle.belief.specs.Run.{decodeAt}
 use Rattle.belief.proofs.Fill.{fill-more, fill-done}
 use Rattle.passes.specs.Codes.{checksBy, kindBy}
-use Rattle.decoders.specs.Decodes.{ruleOf}
+use Rattle.rules.specs.Rules.{ruleOf}
 use Rattle.belief.specs.declared.Decoded.{Decoded}
 use Rattle.batch.specs.Codes.{sizeN, sizeK, decodeBy, decodeOf}
 use Rattle.batch.specs.Pairs.{Pair, pair, pairsOf, frameOf, framesOf, AllWithin}

@@ -6,7 +6,7 @@ use mathlib.Core.List.{List, []}
 use Prim.Native.Nat.{ℕ, _*_, _<_, _≤_, min}
 use lib.Ieee.{Float}
 use Rattle.softmath.specs.declared.DecodeRule.{DecodeRule}
-use Rattle.decoders.specs.Decodes.{ruleOf}
+use Rattle.rules.specs.Rules.{ruleOf}
 use lib.ListN.{length, getD, take, drop}
 use Rattle.refusal.specs.Outcome.{Outcome, accepted}
 use Rattle.tanner.specs.Checks.{Word, count, firstUnsatisfied}

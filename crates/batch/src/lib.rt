@@ -37,7 +37,7 @@ pub fn decode_frame(
     ensures { λ r. ⌜ Chose (decodeOf code rule scale (now (llr .entry))) limit (length (now (bits .entry))) r (now (bits .exit)) ⌝ }
     ensures { λ _. ⌜ cleared (now (work .exit)) ≡ cleared (now (work .entry)) ⌝ }
 {
-    let step = decoders::rule_of(code, rule, scale);
+    let step = rules::rule_of(code, rule, scale);
     belief::decode_uncleared(code, step, limit, llr, bits, work)
 }
 

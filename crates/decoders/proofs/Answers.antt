@@ -1,4 +1,4 @@
--- The numbers of codes and rules, case by case, and what a call that is refused or accepted answers. Assumes nothing.
+-- The numbers of codes, case by case, and what a call that is refused or accepted answers. Assumes nothing.
 use mathlib.Core.Path.{_≡_, refl, sym, ap, _∙_}
 use mathlib.Core.List.{List}
 use Prim.Native.Nat.{ℕ, zero, suc, _<_, _≤_}
@@ -11,42 +11,15 @@ use Rattle.refusal.proofs.Judged.{verdict, nothing, judged-accepted, judged-ref
 use Rattle.construction.specs.Codes.{blockLength}
 use Rattle.staircase.specs.Codes.{codeOf}
 use Rattle.softmath.specs.declared.DecodeRule.{DecodeRule}
-use Rattle.softmath.specs.declared.DecodeRule.the-variants.{SumProduct, ScaledMinSum, Ft8}
 use Rattle.belief.specs.Chosen.{Chose, toldBy}
 use Rattle.belief.specs.Area.{cleared}
 use Rattle.belief.specs.Run.{decodeAt}
 use Rattle.passes.specs.Codes.{sizeN, checksBy, kindBy}
 use Rattle.belief.specs.declared.Decoded.{Decoded}
-use Rattle.decoders.specs.Decodes.{threeQuarters, staircaseRule, ft8Rule, ruleOf, staircaseDecode, ft8Decode}
+use Rattle.decoders.specs.Decodes.{staircaseDecode, ft8Decode}
 use Rattle.decoders.specs.Calls.{Single, Answered, softWithRefusals, frameRefusals}
 
 -- ---- numbers
-
-pub house-rule : (n : ℕ) (scale : Float) → (n ≡ 0 → ⊥) → (n ≡ 1 → ⊥) → (n ≡ 2 → ⊥) → ScaledMinSum threeQuarters ≡ staircaseRule n scale
-house-rule zero scale a b c = absurd (a refl)
-house-rule (suc zero) scale a b c = absurd (b refl)
-house-rule (suc (suc zero)) scale a b c = absurd (c refl)
-house-rule (suc (suc (suc n))) scale a b c = refl
-
-pub rule-of-ft8 : (code rule : ℕ) (scale : Float) → 2 < code → ft8Rule rule ≡ ruleOf code rule scale
-rule-of-ft8 zero rule scale h = absurd (omega arith)
-rule-of-ft8 (suc zero) rule scale h = absurd (omega arith)
-rule-of-ft8 (suc (suc zero)) rule scale h = absurd (omega arith)
-rule-of-ft8 (suc (suc (suc n))) rule scale h = refl
-
-pub rule-of-staircase : (code rule : ℕ) (scale : Float) → code ≤ 2 → staircaseRule rule scale ≡ ruleOf code rule scale
-rule-of-staircase zero rule scale h = refl
-rule-of-staircase (suc zero) rule scale h = refl
-rule-of-staircase (suc (suc zero)) rule scale h = refl
-rule-of-staircase (suc (suc (suc n))) rule scale h = absurd (omega arith)
-
-pub unnegated : (n : ℕ) → 0 < n → SumProduct ≡ ft8Rule n
-unnegated zero h = absurd (omega arith)
-unnegated (suc n) h = refl
-
-pub own-step : (n : ℕ) → n ≤ 0 → Ft8 ≡ ft8Rule n
-own-step zero h = refl
-own-step (suc n) h = absurd (omega arith)
 
 -- the decode at a staircase code's number, and its sizes
 pub staircase-at : (code : ℕ) → code < 3 → (rule : DecodeRule) (llr : List Float) → decodeAt code rule llr ≡ staircaseDecode (codeOf code) rule llr

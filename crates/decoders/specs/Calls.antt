@@ -14,7 +14,8 @@ use Rattle.staircase.specs.Codes.{codeOf}
 use Rattle.belief.specs.Rounds.{Decode, chosenBits}
 use Rattle.belief.specs.Chosen.{Told, told, toldBy}
 use Rattle.belief.specs.Area.{cleared}
-use Rattle.decoders.specs.Decodes.{staircaseRule, staircaseDecode, ft8Decode}
+use Rattle.rules.specs.Rules.{staircaseRule}
+use Rattle.decoders.specs.Decodes.{staircaseDecode, ft8Decode}
 use Rattle.decoders.specs.declared.Decoding.{Decoding}
 use Rattle.decoders.specs.declared.Decoding.the-variants.{Decoded, Refused}
 

@@ -1,54 +1,13 @@
 // The soft decoders of the staircase codes and of (174,91): the round loop of `belief` at each code's number.
-ghost use mathlib.Core.Path.{_≡_};
-ghost use Rattle.decoders.specs.Decodes.{staircaseRule, ft8Rule, ruleOf};
 ghost use Rattle.decoders.specs.Calls.{decodingOf, Answered, softWith, soft, ft8Soft};
 use belief::Decoded;
 use refusal::Refusal;
 use softmath::DecodeRule;
 
-// The scale of the house default on the staircase codes.
-const HOUSE_SCALE: f32 = 0.75;
-
 // The answer of a decoder: what is told beside the bits.
 pub enum Decoding {
     Decoded(Decoded),
     Refused(Refusal),
-}
-
-// The check step of a staircase code under the rule with that number.
-fn staircase_rule(rule: u32, scale: f32) -> DecodeRule
-    ensures { λ r. ⌜ r ≡ staircaseRule rule scale ⌝ }
-{
-    if rule == 0 {
-        return DecodeRule::SumProduct;
-    }
-    if rule == 1 {
-        return DecodeRule::MinSum;
-    }
-    if rule == 2 {
-        return DecodeRule::ScaledMinSum(scale);
-    }
-    DecodeRule::ScaledMinSum(HOUSE_SCALE)
-}
-
-// The check step of (174,91) under the rule with that number.
-fn ft8_rule(rule: u32) -> DecodeRule
-    ensures { λ r. ⌜ r ≡ ft8Rule rule ⌝ }
-{
-    if rule > 0 {
-        return DecodeRule::SumProduct;
-    }
-    DecodeRule::Ft8
-}
-
-// The check step that a frame of the code is decoded by.
-pub fn rule_of(code: u32, rule: u32, scale: f32) -> DecodeRule
-    ensures { λ r. ⌜ r ≡ ruleOf code rule scale ⌝ }
-{
-    if code > 2 {
-        return ft8_rule(rule);
-    }
-    staircase_rule(rule, scale)
 }
 
 // A staircase decode by the rule with that number, which is `decode_soft_with`.
@@ -82,7 +41,14 @@ pub fn decode_soft_with(
     if work.len() < belief::WORK {
         return Decoding::Refused(Refusal::WorkTooShort);
     }
-    Decoding::Decoded(belief::decode(code, staircase_rule(rule, scale), limit, llr, bits, work))
+    Decoding::Decoded(belief::decode(
+        code,
+        rules::staircase_rule(rule, scale),
+        limit,
+        llr,
+        bits,
+        work,
+    ))
 }
 
 // The same by sum-product, which is `decode_soft`.

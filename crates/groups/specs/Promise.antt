@@ -9,7 +9,7 @@ use lib.ListN.{length, getD, take, drop, replicate}
 use Rattle.refusal.specs.Outcome.{Outcome, accepted}
 use Rattle.tanner.specs.Flat.{Below}
 use Rattle.softmath.specs.declared.DecodeRule.{DecodeRule}
-use Rattle.decoders.specs.Decodes.{ruleOf}
+use Rattle.rules.specs.Rules.{ruleOf}
 use Rattle.batch.specs.Codes.{sizeK}
 use Rattle.batch.specs.Calls.{Lent, Batch, frames, written}
 use Rattle.batch.specs.Calls as batch

@@ -13,7 +13,7 @@ use lib.ListN.{length, getD, take}
 use Rattle.tanner.specs.Checks.{Word, First, none, parity, count, firstUnsatisfied, FirstIs, counted, satisfied}
 use Rattle.tanner.proofs.First.{first-is, none-count, count-none}
 use Rattle.ldpc.proofs.Tests.{and-left, and-right}
-use Rattle.decoders.specs.Decodes.{ruleOf}
+use Rattle.rules.specs.Rules.{ruleOf}
 use Rattle.belief.specs.Rounds.{chosen, chosenCount, chosenBits}
 use Rattle.batch.specs.Codes.{sizeK, decodeOf}
 use Rattle.clean.specs.Clean.{anyNan, payloadChecksum, carriedChecksum, checksumRight, frameClean}

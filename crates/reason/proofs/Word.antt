@@ -10,7 +10,7 @@ use lib.Seq.{take-all}
 use Rattle.tanner.specs.Checks.{Word, Checks, firstUnsatisfied}
 use Rattle.tanner.specs.Found.{firstOf}
 use Rattle.softmath.specs.declared.DecodeRule.{DecodeRule}
-use Rattle.decoders.specs.Decodes.{ruleOf}
+use Rattle.rules.specs.Rules.{ruleOf}
 use Rattle.belief.specs.Rounds.{Decode, chosen, chosenFirst, chosenBits}
 use Rattle.belief.specs.Chosen.{Told, Chose}
 use Rattle.belief.specs.declared.Decoded.{Decoded}

@@ -1,9 +1,9 @@
--- `decoders::rule_of` meets its contract: (174,91) and the staircase codes. Assumes nothing.
+-- `rules::rule_of` meets its contract: (174,91) and the staircase codes. Assumes nothing.
 use mathlib.Core.Path.{_∙_}
-use Rattle.decoders.proofs.Answers.{rule-of-ft8, rule-of-staircase}
+use Rattle.rules.proofs.Numbers.{rule-of-ft8, rule-of-staircase}
 use borrow.Author.Needs.{needs}
-use Rattle.decoders.proofs.rule_of.Statement.{statement}
-use Rattle.decoders.proofs.rule_of.Tie as tie
+use Rattle.rules.proofs.rule_of.Statement.{statement}
+use Rattle.rules.proofs.rule_of.Tie as tie
 
 ft8-rule-requires : tie.Need-ft8-rule-requires
 ft8-rule-requires c κs = search needs

@@ -1,8 +1,8 @@
--- `decoders::staircase_rule` meets its contract, rule by rule. Assumes nothing.
+-- `rules::staircase_rule` meets its contract, rule by rule. Assumes nothing.
 use mathlib.Core.Path.{refl}
-use Rattle.decoders.proofs.Answers.{house-rule}
-use Rattle.decoders.proofs.staircase_rule.Statement.{statement}
-use Rattle.decoders.proofs.staircase_rule.Tie as tie
+use Rattle.rules.proofs.Numbers.{house-rule}
+use Rattle.rules.proofs.staircase_rule.Statement.{statement}
+use Rattle.rules.proofs.staircase_rule.Tie as tie
 
 returns : tie.Need-returns
 returns c = rw (c .if1 .taken) refl
