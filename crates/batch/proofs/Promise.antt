@@ -45,7 +45,8 @@ use Rattle.belief.proofs.Words.{chosen-first, count-falls, same-chosen}
 use Rattle.belief.proofs.RoundsRun.{rounds-lesser, rounds-within}
 use Rattle.batch.specs.Codes.{sizeN, sizeK, decodeBy, encodingBy}
 use Rattle.batch.specs.Pairs.{Pair, frameOf}
-use Rattle.batch.specs.Calls.{Lent, Batch, Answered, roomOf, refusals, frames, placeOf, frameBits, frameCount, frameRounds, frameFirst, written}
+use Rattle.batch.specs.Calls.{Lent, Batch, Answered, roomOf, refusals, frames, frameBits, frameCount, frameRounds, frameFirst, written}
+use Rattle.check_places.specs.Places.{placeOf}
 use Rattle.batch.specs.Promise.{Call, Accepted, reading, held, valuesAt, decodeAt, countAt, roundsAt, firstAt, bitsAt, ByChosenWord, SameFrame, Promise}
 use Rattle.batch.proofs.Pairs.{within-at}
 use Rattle.batch.proofs.Sizes.{size-small}

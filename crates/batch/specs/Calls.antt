@@ -7,7 +7,7 @@ use lib.Dec.{eqb}
 use lib.Ieee.{Float}
 use lib.ListN.{length}
 use Rattle.refusal.specs.Outcome.{Outcome, Condition, judged, kept}
-use Rattle.tanner.specs.Checks.{First, check, none}
+use Rattle.check_places.specs.Places.{placeOf}
 use Rattle.tanner.specs.Flat.{joined}
 use Rattle.belief.specs.Rounds.{Decode, roundsRun, chosenCount, chosenFirst, chosenBits}
 use Rattle.belief.specs.Area.{cleared}
@@ -73,11 +73,7 @@ frames b = framesOf (b .values) (b .pairs)
 abbrev pub frameDecode : Batch → List Float → Decode
 frameDecode b llr = decodeOf (b .code) (b .rule) (b .scale) llr
 
--- its message bits, its count, its rounds run and its first unsatisfied check ("65,535 for none") under the batch's limit
-abbrev pub placeOf : First → ℕ
-placeOf (check c) = c
-placeOf none = 65535
-
+-- its message bits, its count, its rounds run and its first unsatisfied check under the batch's limit
 abbrev pub frameBits : Batch → List Float → List ℕ
 frameBits b llr = chosenBits (frameDecode b llr) (b .limit) (sizeK (b .code))
 
@@ -102,10 +98,6 @@ written b = record {
 }
 
 -- ---- the calls
-
--- a stored batch, which "relied on the old meaning" of rule 3, is read with "3 as 0", and "every other number" as it is (change request N4)
-unfoldable pub asStored : ℕ → ℕ
-asStored rule = cond (eqb rule 3) 0 rule
 
 -- what the call answers and leaves in the memory lent to it: "The answer carries the number and no count; lent memory is unchanged" where it is refused
 pub record Answered (b : Batch) (answer : Outcome Unit) (left : Lent) : Type 0 where

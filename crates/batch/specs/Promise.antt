@@ -13,7 +13,8 @@ use Rattle.tanner.specs.Checks.{Word, count, firstUnsatisfied}
 use Rattle.belief.specs.Rounds.{Decode}
 use Rattle.belief.specs.Chosen.{words, FirstLeast}
 use Rattle.batch.specs.Codes.{sizeK, encodingBy}
-use Rattle.batch.specs.Calls.{Lent, Batch, frames, frameDecode, placeOf, Answered}
+use Rattle.batch.specs.Calls.{Lent, Batch, frames, frameDecode, Answered}
+use Rattle.check_places.specs.Places.{placeOf}
 
 -- a call that was made: what was handed over, what it answered, what it left in the lent memory; by the contract of `decode_batch`, and of every call that
 -- has it

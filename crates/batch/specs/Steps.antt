@@ -9,7 +9,8 @@ use Rattle.belief.specs.Rounds.{Decode, roundsRun, chosenCount, chosenFirst, ch
 use Rattle.belief.specs.Area.{cleared}
 use Rattle.batch.specs.Codes.{sizeN, sizeK}
 use Rattle.batch.specs.Pairs.{AllWithin}
-use Rattle.batch.specs.Calls.{Lent, Batch, placeOf}
+use Rattle.batch.specs.Calls.{Lent, Batch}
+use Rattle.check_places.specs.Places.{placeOf}
 -- one pair tested: defined in crate `batch_refusals` (specs/Steps.antt)
 pub use Rattle.batch_refusals.specs.Steps.{seenOf, seenAll}
 unfoldable pub use Rattle.batch_refusals.specs.Steps.{nextSeen}

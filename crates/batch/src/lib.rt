@@ -2,21 +2,17 @@
 use batch_refusals::Room;
 use belief::Decoded;
 use refusal::Status;
-use tanner::FirstCheck;
 ghost use mathlib.Core.Path.{_≡_};
 ghost use Prim.Native.Nat.{_+_, _*_, _≤_, _<_};
 ghost use lib.ListN.{length};
 ghost use Rattle.refusal.specs.Answers.{statusOf};
-ghost use Rattle.tanner.specs.Found.{firstOf};
 ghost use Rattle.belief.specs.Chosen.{Chose};
 ghost use Rattle.belief.specs.Area.{cleared};
+ghost use Rattle.rules.specs.Rules.{asStored};
 ghost use Rattle.batch.specs.Codes.{sizeN, sizeK, decodeOf};
 ghost use Rattle.batch.specs.Pairs.{pair, pairsOf, frameOf};
-ghost use Rattle.batch.specs.Calls.{lent, batch, placeOf, written, asStored, Answered};
+ghost use Rattle.batch.specs.Calls.{lent, batch, written, Answered};
 ghost use Rattle.batch.specs.Steps.{Fitting, PlaceFits, placed};
-
-// What stands in the place of a first unsatisfied check where every check is satisfied.
-pub const NO_CHECK: u16 = 65535;
 
 // ---- decoding
 
@@ -39,16 +35,6 @@ pub fn decode_frame(
 {
     let step = rules::rule_of(code, rule, scale);
     belief::decode_uncleared(code, step, limit, llr, bits, work)
-}
-
-// A first unsatisfied check as one number.
-pub fn place_of(first: FirstCheck) -> u16
-    ensures { λ r. ⌜ r ≡ placeOf (firstOf first) ⌝ }
-{
-    match first {
-        FirstCheck::Check(c) => c,
-        FirstCheck::Satisfied => NO_CHECK,
-    }
 }
 
 // One frame, the values from `offset` on: decoded to place j of each output. The work area is left to be cleared.
@@ -88,7 +74,7 @@ pub fn decode_place(
     let first = told.first;
     counts[j] = told.count;
     rounds[j] = told.rounds;
-    firsts[j] = place_of(first);
+    firsts[j] = check_places::place_of(first);
 }
 
 // All frames, in place order.
@@ -180,16 +166,6 @@ pub fn decode_batch(
 
 // ---- stored batches
 
-// A stored batch's rule as it was meant.
-fn stored_rule(rule: u32) -> u32
-    ensures { λ r. ⌜ r ≡ asStored rule ⌝ }
-{
-    if rule == 3 {
-        return 0;
-    }
-    rule
-}
-
 // The batch over flat slices, of a batch that was stored when rule 3 stood for rule 0.
 pub fn decode_stored_batch(
     code: u32,
@@ -212,7 +188,7 @@ pub fn decode_stored_batch(
 {
     decode_batch(
         code,
-        stored_rule(rule),
+        rules::stored_rule(rule),
         limit,
         scale,
         values,

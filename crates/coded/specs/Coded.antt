@@ -7,7 +7,7 @@ use lib.IntN.{ℤ, pos, negℤ}
 use Rattle.refusal.specs.Outcome.{Outcome, accepted, refused}
 use Rattle.tanner.specs.Checks.{Syndrome}
 use Rattle.belief.specs.Chosen.{Told}
-use Rattle.batch.specs.Calls.{placeOf}
+use Rattle.check_places.specs.Places.{placeOf}
 use Rattle.reason.specs.declared.Reason.{Reason}
 use Rattle.reason.specs.declared.Reason.the-variants.{Nan, Check, Checksum, Clean}
 use Rattle.cycles.specs.Calls.{Report}

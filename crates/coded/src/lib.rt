@@ -62,7 +62,7 @@ pub fn counting_code(answer: Counting, first: &mut u16) -> i32
     match answer {
         Counting::Counted(counted) => {
             let check = counted.first;
-            *first = batch::place_of(check);
+            *first = check_places::place_of(check);
             value_code(counted.count)
         }
         Counting::Refused(r) => refusal_code(r),
@@ -78,7 +78,7 @@ pub fn decoding_code(answer: Decoding, rounds: &mut u16, first: &mut u16) -> i32
         Decoding::Decoded(told) => {
             let check = told.first;
             *rounds = told.rounds;
-            *first = batch::place_of(check);
+            *first = check_places::place_of(check);
             value_code(told.count)
         }
         Decoding::Refused(r) => refusal_code(r),

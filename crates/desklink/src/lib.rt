@@ -10,6 +10,7 @@ ghost use Rattle.refusal.specs.Outcome.{judged, kept};
 ghost use Rattle.crc.specs.Register.{crc14};
 ghost use Rattle.crc.specs.Block.{block, carried};
 ghost use Rattle.crc.specs.Calls as crc·calls;
+ghost use Rattle.rules.specs.Rules.{asStored};
 ghost use Rattle.tanner.specs.Checks.{syndromeOfBytes};
 ghost use Rattle.ldpc.specs.Calls as ldpc·calls;
 ghost use Rattle.ldpc.specs.Code174.{checks};
@@ -244,7 +245,7 @@ pub extern "C" fn desklink_decode_stored_batch_unguarded(
     work: &mut [f32],
 ) -> i32
     ensures { λ n. ⌜ BatchCall
-        (batch·calls.batch code (batch·calls.asStored rule) limit scale (now (values .entry)) (pairsOf (now (pairs .entry)))
+        (batch·calls.batch code (asStored rule) limit scale (now (values .entry)) (pairsOf (now (pairs .entry)))
         (batch·calls.lent (now (bits .entry)) (now (counts .entry)) (now (rounds .entry)) (now (firsts .entry)) (now (work .entry))))
         n
         (batch·calls.lent (now (bits .exit)) (now (counts .exit)) (now (rounds .exit)) (now (firsts .exit)) (now (work .exit))) ⌝ }

@@ -17,7 +17,8 @@ use Rattle.belief.specs.Rounds.{Decode, firstMessages, answers, sent, initialWo
 use Rattle.belief.specs.Rounds.{chosenFrom, chosen, chosenCount, chosenFirst, chosenBits}
 use Rattle.belief.specs.Area.{cleared}
 use Rattle.batch.specs.Codes.{sizeK}
-use Rattle.batch.specs.Calls.{Lent, Batch, refusals, frames, frameDecode, placeOf, written}
+use Rattle.batch.specs.Calls.{Lent, Batch, refusals, frames, frameDecode, written}
+use Rattle.check_places.specs.Places.{placeOf}
 use Rattle.batch_input.specs.Handed.{batchIn, inputRefusals}
 use Rattle.text.specs.Text.{printed}
 use Rattle.listing.specs.Listing.{framesText, listingOf}

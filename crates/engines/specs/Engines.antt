@@ -16,7 +16,8 @@ use Rattle.tanner.specs.Flat.{joined}
 use Rattle.belief.specs.Rounds.{Decode, firstMessages, byCheck, decided, sent, initialWord, unlessDone, chosenFrom}
 use Rattle.belief.specs.Area.{cleared}
 use Rattle.batch.specs.Codes.{sizeK}
-use Rattle.batch.specs.Calls.{Lent, Batch, refusals, frames, frameDecode, placeOf}
+use Rattle.batch.specs.Calls.{Lent, Batch, refusals, frames, frameDecode}
+use Rattle.check_places.specs.Places.{placeOf}
 use Rattle.batch_input.specs.Handed.{batchIn, inputRefusals}
 use Rattle.text.specs.Text.{printed}
 use Rattle.listing.specs.Listing.{framesText}

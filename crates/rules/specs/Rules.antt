@@ -1,5 +1,7 @@
 -- The decode rules by number: one reading of a code, a rule and a scale, which the decoders, the batch and the promise between limits use.
+use mathlib.Core.Bool.{cond}
 use Prim.Native.Nat.{ℕ, zero, suc}
+use lib.Dec.{eqb}
 use lib.Ieee.{Float, binary32, ofBits}
 use Rattle.softmath.specs.declared.DecodeRule.{DecodeRule}
 use Rattle.softmath.specs.declared.DecodeRule.the-variants.{SumProduct, MinSum, ScaledMinSum, Ft8}
@@ -28,3 +30,7 @@ ruleOf zero rule scale = staircaseRule rule scale
 ruleOf (suc zero) rule scale = staircaseRule rule scale
 ruleOf (suc (suc zero)) rule scale = staircaseRule rule scale
 ruleOf (suc (suc (suc n))) rule scale = ft8Rule rule
+
+-- a stored batch, which "relied on the old meaning" of rule 3, is read with "3 as 0", and "every other number" as it is (change request N4)
+unfoldable pub asStored : ℕ → ℕ
+asStored rule = cond (eqb rule 3) 0 rule

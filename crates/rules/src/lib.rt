@@ -1,6 +1,6 @@
 // The decode rules by number: the check step that a frame of a code is decoded by.
 ghost use mathlib.Core.Path.{_≡_};
-ghost use Rattle.rules.specs.Rules.{staircaseRule, ft8Rule, ruleOf};
+ghost use Rattle.rules.specs.Rules.{staircaseRule, ft8Rule, ruleOf, asStored};
 use softmath::DecodeRule;
 
 // The scale of the house default on the staircase codes.
@@ -40,4 +40,14 @@ pub fn rule_of(code: u32, rule: u32, scale: f32) -> DecodeRule
         return ft8_rule(rule);
     }
     staircase_rule(rule, scale)
+}
+
+// A stored batch's rule as it was meant.
+pub fn stored_rule(rule: u32) -> u32
+    ensures { λ r. ⌜ r ≡ asStored rule ⌝ }
+{
+    if rule == 3 {
+        return 0;
+    }
+    rule
 }

@@ -10,7 +10,7 @@ use Rattle.belief.specs.Rounds.{Decode, chosenBits}
 use Rattle.belief.specs.Chosen.{Told, told}
 use Rattle.batch.specs.Codes.{sizeN, decodeOf}
 use Rattle.batch.specs.Pairs.{pair, frameOf}
-use Rattle.batch.specs.Calls.{placeOf}
+use Rattle.check_places.specs.Places.{placeOf}
 use Rattle.batch.specs.Steps.{placed}
 use Rattle.batch.proofs.Sizes.{size-small}
 use Rattle.batch.proofs.Frames.{part-size, part-frame, part-placed, lent-are}

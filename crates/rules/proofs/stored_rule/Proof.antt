@@ -1,8 +1,8 @@
--- `batch::stored_rule` meets its contract, test by test. Assumes nothing.
+-- `rules::stored_rule` meets its contract, test by test. Assumes nothing.
 use borrow.Author.Tests.{eq-eqb, ne-eqb}
-use Rattle.batch.specs.Calls.{asStored}
-use Rattle.batch.proofs.stored_rule.Statement.{statement}
-use Rattle.batch.proofs.stored_rule.Tie as tie
+use Rattle.rules.specs.Rules.{asStored}
+use Rattle.rules.proofs.stored_rule.Statement.{statement}
+use Rattle.rules.proofs.stored_rule.Tie as tie
 
 returns : tie.Need-returns
 unfolding asStored
