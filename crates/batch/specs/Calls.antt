@@ -1,9 +1,7 @@
 -- The batch (document 01, "The batch"): what is handed over, when it is refused, and what it writes otherwise.
 use mathlib.Core.Path.{_≡_}
-use mathlib.Core.Bool.{cond}
 use mathlib.Core.List.{List, map}
 use Prim.Native.Nat.{ℕ}
-use lib.Dec.{eqb}
 use lib.Ieee.{Float}
 use lib.ListN.{length}
 use Rattle.refusal.specs.Outcome.{Outcome, Condition, judged, kept}
