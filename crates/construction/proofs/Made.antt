@@ -8,11 +8,12 @@ use borrow.Rule.Slice.PartMut.{putMid}
 use lib.Dec.{leb}
 use lib.ListN.{length, take, drop, replicate, getD-replicate, length-take, length-drop, length-replicate}
 use lib.Seq.{take-at, drop-at, take-add, length-take-le, take-length}
-use Rattle.construction.specs.Columns.{insert, sorted, load, skipped, finished, nextColumn, made, laidBefore, rowsOf}
-use Rattle.construction.specs.Tables.{columnAt, columnsIn, AllBelow, Loads, Loaded, Flags, flagAt, Room, Ready, Begun, Finished, ColumnMade}
-use Rattle.construction.specs.Tables.{Blank, Constructed}
-use Rattle.construction.proofs.Rows.{either, Each, each-append, each-left, each-right, each-sorted, each-all, all-each}
-use Rattle.construction.proofs.Columns.{times-le}
+use Rattle.columns.specs.Rows.{insert, sorted}
+use Rattle.columns.specs.Tables.{columnAt, columnsIn, AllBelow, Loaded, flagAt, Room}
+use Rattle.columns.proofs.Columns.{times-le}
+use Rattle.picking.proofs.Rows.{either, Each, each-append, each-left, each-right, each-sorted, each-all, all-each}
+use Rattle.construction.specs.Columns.{load, skipped, finished, nextColumn, made, laidBefore, rowsOf}
+use Rattle.construction.specs.Tables.{Loads, Flags, Ready, Begun, Finished, ColumnMade, Blank, Constructed}
 use Rattle.construction.proofs.Picks.{columns-same, Picked}
 
 -- ---- sorting keeps the length

@@ -12,12 +12,15 @@ use lib.Dec.{ltb, eqb}
 use lib.ListN.{length, getD, set, take, drop, length-set, length-take, length-drop}
 use lib.Seq.{take-set-le, take-take, getD-take, getD-set-same, getD-set-other, take-nil, drop-set-add, take-suc-set}
 use Rattle.xorshift.specs.Draw.{draw}
-use Rattle.construction.specs.Columns.{Found, row, nothing, Choice, upFrom, search, leastOf, settled, pick, onePick, picks, skipped, load, together}
-use Rattle.construction.specs.Tables.{metRow, metRows, Below, loadAt, flagAt, columnAt, columnsIn, AllBelow, AllMarked, Flags, Loads, Ready, Begun}
-use Rattle.construction.specs.Tables.{Placed}
-use Rattle.construction.proofs.Searches.{met-round}
-use Rattle.construction.proofs.Rows.{either}
-use Rattle.construction.proofs.Marks.{part-below}
+use Rattle.columns.specs.Rows.{together}
+use Rattle.columns.specs.Tables.{flagAt, columnAt, columnsIn, AllBelow, AllMarked}
+use Rattle.columns.proofs.Marks.{part-below}
+use Rattle.picking.specs.Picks.{Found, row, nothing, Choice, upFrom, search, leastOf, settled}
+use Rattle.picking.specs.Searches.{metRow, metRows, Below, loadAt}
+use Rattle.picking.proofs.Searches.{met-round}
+use Rattle.picking.proofs.Rows.{either}
+use Rattle.construction.specs.Columns.{pick, onePick, picks, skipped, load}
+use Rattle.construction.specs.Tables.{Flags, Loads, Ready, Begun, Placed}
 
 module _ (m : ℕ) (L L′ : ℕ → ℕ) (S S′ : ℕ → Bool) (loads : (r : ℕ) → r < m → L r ≡ L′ r) (flags : (r : ℕ) → r < m → S r ≡ S′ r) where
   met-same : (b : Bool) (r : ℕ) (f : Found) → r < m → Below m f → metRow L b r f ≡ metRow L′ b r f

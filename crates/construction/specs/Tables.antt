@@ -1,74 +1,12 @@
--- How the code holds the columns: three rows a column in one flat table, and a flag for each row that a pick skips.
-use mathlib.Core.Bool.{Bool, true, false, not, _&&_, _||_}
-use mathlib.Core.List.{List, [], _∷_}
+-- How the code holds the construction as it goes: the flags are those of the rows that a pick skips, and the loads those of the columns made.
+-- What each function of the construction is given, and what it leaves.
+use mathlib.Core.List.{List, _∷_}
 use mathlib.Core.Path.{_≡_}
-use Prim.Native.Nat.{ℕ, zero, suc, _+_, _*_, _≤_, _<_}
-use lib.Dec.{eqb}
+use Prim.Native.Nat.{ℕ, suc, _+_, _*_, _≤_, _<_}
 use lib.ListN.{length, getD, set, take, drop, replicate}
-use Rattle.construction.specs.Columns.{Found, row, nothing, Choice, holds, together, times, load, leastOf, skipped, pick, picks, sorted, made, rowsOf}
-use Rattle.construction.specs.declared.Taken.{Taken}
-use Rattle.construction.specs.declared.Pick.{Pick}
-use Rattle.construction.specs.declared.Pick.the-variants.{Row, Nothing}
-
--- what an answer of the search says
-abbrev pub foundOf : Pick → Found
-foundOf (Row r) = row r
-foundOf Nothing = nothing
-
-abbrev pub choiceOf : Taken → Choice
-choiceOf t = record { row = t .row; relaxed = t .relaxed }
-
--- a row met by the search, after what was found before it
-unfoldable pub metRow : (ℕ → ℕ) → Bool → ℕ → Found → Found
-metRow loads true r f = f
-metRow loads false r nothing = row r
-metRow loads false r (row q) = row (leastOf loads q (r ∷ []))
-
--- the rows met one after another
-unfoldable pub metRows : (ℕ → ℕ) → (ℕ → Bool) → List ℕ → Found → Found
-metRows loads skip [] f = f
-metRows loads skip (r ∷ rs) f = metRows loads skip rs (metRow loads (skip r) r f)
-
--- nothing beats what is found: it is a row with no load
-unfoldable pub Unbeaten : List ℕ → Found → Type 0
-Unbeaten ls (row r) = getD ls r 0 ≡ 0
-Unbeaten ls nothing = ⊥
-
--- what is found lies below m
-unfoldable pub Below : ℕ → Found → Type 0
-Below m (row r) = r < m
-Below m nothing = Unit
-
-unfoldable pub loadAt : List ℕ → ℕ → ℕ
-loadAt ls r = getD ls r 0
-
-unfoldable pub flagAt : List ℕ → ℕ → Bool
-flagAt fs r = not (eqb (getD fs r 0) 0)
-
--- column j of the flat table
-unfoldable pub columnAt : List ℕ → ℕ → List ℕ
-columnAt rows j = take 3 (drop (3 * j) rows)
-
--- the first n columns, newest first
-unfoldable pub columnsIn : List ℕ → ℕ → List (List ℕ)
-columnsIn rows zero = []
-columnsIn rows (suc n) = columnAt rows n ∷ columnsIn rows n
-
--- each of the rows is below m
-unfoldable pub AllBelow : ℕ → List ℕ → Type 0
-AllBelow m c = (i : ℕ) → i < length c → getD c i 0 < m
-
--- v are the flags u with those of the rows
-unfoldable pub Marked : List ℕ → List ℕ → List ℕ → Type 0
-Marked c u v = (r : ℕ) → r < length u → flagAt v r ≡ (holds c r || flagAt u r)
-
--- the same where q is one of the rows
-unfoldable pub MarkedWith : List ℕ → ℕ → List ℕ → List ℕ → Type 0
-MarkedWith c q u v = (r : ℕ) → r < length u → flagAt v r ≡ ((holds c q && holds c r) || flagAt u r)
-
--- v are the flags u with those of q and of the rows that a column holds together with q
-unfoldable pub AllMarked : List (List ℕ) → ℕ → List ℕ → List ℕ → Type 0
-AllMarked cs q u v = (r : ℕ) → r < length u → flagAt v r ≡ ((eqb q r || together cs q r) || flagAt u r)
+use Rattle.columns.specs.Rows.{sorted}
+use Rattle.columns.specs.Tables.{flagAt, columnsIn, AllBelow}
+use Rattle.construction.specs.Columns.{load, skipped, pick, picks, made, rowsOf}
 
 -- the flags are those of the rows that a pick skips
 unfoldable pub Flags : List (List ℕ) → List ℕ → List ℕ → Type 0
@@ -77,14 +15,6 @@ Flags cs picked u = (r : ℕ) → r < length u → flagAt u r ≡ skipped cs pic
 -- the loads are those of the columns
 unfoldable pub Loads : List (List ℕ) → List ℕ → Type 0
 Loads cs ls = (r : ℕ) → r < length ls → getD ls r 0 ≡ load cs r
-
--- the loads v are the loads u with one more for each of the rows
-unfoldable pub Loaded : List ℕ → List ℕ → List ℕ → Type 0
-Loaded c u v = (r : ℕ) → r < length u → getD v r 0 ≡ times c r + getD u r 0
-
--- there is room for n more at each load
-unfoldable pub Room : ℕ → List ℕ → Type 0
-Room n ls = (r : ℕ) → r < length ls → getD ls r 0 + n < 65536
 
 -- a pick can be made for the columns cs over m rows: the loads are theirs, and there is a flag for each row
 pub record Ready (m : ℕ) (cs : List (List ℕ)) (loads marks : List ℕ) : Type 0 where

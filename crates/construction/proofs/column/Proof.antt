@@ -37,7 +37,8 @@ use Rattle.walks.proofs.Frame.{Spot, Cell, frame, begins, var, loc, con, args, 
 use Rattle.walks.proofs.Lend.{Handle, handle, pointer, counted, Ref, Slice}
 use Rattle.walks.proofs.Loans.{Loan, lend, lend-slice, share-slice, give, lent-args, takes, calls-lent, own-args, gathers, scatters}
 use Rattle.walks.proofs.Walk.{Walk, walking, meets-by}
-use Rattle.construction.specs.Tables.{columnAt, Begun, Placed, Finished}
+use Rattle.columns.specs.Tables.{columnAt}
+use Rattle.construction.specs.Tables.{Begun, Placed, Finished}
 use Rattle.construction.proofs.Picks.{picked-three}
 use Rattle.construction.proofs.Made.{column-made}
 use Rattle.construction.proofs.one_pick as pick

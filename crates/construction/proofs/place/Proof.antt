@@ -1,6 +1,6 @@
 -- `construction::place` meets its contract: the pick from the tables is the definition's, and it is marked. Assumes nothing.
 use native.Mathlib.Omega.{arith}
-use Rattle.construction.specs.Tables.{choiceOf}
+use Rattle.picking.specs.Searches.{choiceOf}
 use Rattle.construction.proofs.Picks.{before-below, placed}
 use borrow.Author.Needs.{needs}
 use Rattle.construction.proofs.place.Statement.{statement}
