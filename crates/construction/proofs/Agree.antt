@@ -17,11 +17,12 @@ use Rattle.picking.specs.Picks.{row, leastOf, search, settled, upFrom}
 use Rattle.picking.specs.Searches.{metRow, metRows, loadAt}
 use Rattle.picking.proofs.Rows.{either}
 use Rattle.picking.proofs.Searches.{met-round}
-use Rattle.construction.specs.Columns.{Made, skipped, load, pick, onePick, picks, finished, nextColumn, made}
+use Rattle.placing.specs.OnePick.{skipped, load, pick}
+use Rattle.placing.specs.Tables.{Loads}
+use Rattle.placing.proofs.Picks.{search-same}
+use Rattle.construction.specs.Columns.{Made, onePick, picks, finished, nextColumn, made}
 use Rattle.construction.specs.Quick.{marked, markedIf, markedBy, marksOf, Best, best, none, lessOf, met, scan, foundIn, quickSearch, quickPick, loaded}
 use Rattle.construction.specs.Quick.{Kept, quickOnePick, quickPicks, quickFinished, quickColumn, quickColumns, quick}
-use Rattle.construction.specs.Tables.{Loads}
-use Rattle.construction.proofs.Picks.{search-same}
 
 -- ---- the marks
 marked-length : (c fs : List ℕ) → length (marked c fs) ≡ length fs

@@ -16,7 +16,8 @@ use Rattle.columns.specs.Rows.{holds, together, times}
 use Rattle.columns.proofs.Columns.{holds-append}
 use Rattle.picking.specs.Picks.{upFrom, onceRound, search, firstOutside}
 use Rattle.picking.proofs.Rows.{settled-has, search-free}
-use Rattle.construction.specs.Columns.{skipped, load, pick, onePick, picks}
+use Rattle.placing.specs.OnePick.{skipped, load, pick}
+use Rattle.construction.specs.Columns.{onePick, picks}
 
 -- a row that is not skipped is none of those picked
 skipped-out : (cs : List (List ℕ)) (picked : List ℕ) (r : ℕ) → skipped cs picked r ≡ false → holds picked r ≡ false

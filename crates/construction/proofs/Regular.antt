@@ -9,8 +9,9 @@ use lib.ListN.{length}
 use Rattle.columns.specs.Rows.{times, sorted}
 use Rattle.picking.specs.Picks.{search}
 use Rattle.picking.proofs.Rows.{Each, each-append, each-sorted, settled-has, search-below, outside-below}
-use Rattle.construction.specs.Columns.{skipped, load, pick, onePick, picks, finished, nextColumn, made}
-use Rattle.construction.proofs.Made.{sorted-length}
+use Rattle.placing.specs.OnePick.{skipped, load, pick}
+use Rattle.placing.proofs.Finished.{sorted-length}
+use Rattle.construction.specs.Columns.{onePick, picks, finished, nextColumn, made}
 use Rattle.construction.proofs.Agree.{times-sorted}
 use Rattle.construction.proofs.Different.{three-different, different-once}
 

@@ -6,39 +6,11 @@ ghost use mathlib.Core.Path.{_≡_};
 ghost use Prim.Native.Nat.{_+_, _*_, _≤_, _<_};
 ghost use lib.ListN.{length};
 ghost use Rattle.xorshift.specs.Draw.{draw};
-ghost use Rattle.columns.specs.Tables.{columnAt};
+ghost use Rattle.placing.specs.Tables.{Begun, Placed};
 ghost use Rattle.construction.specs.Columns.{made, rowsOf};
-ghost use Rattle.construction.specs.Tables.{Begun, Placed, Finished, ColumnMade, Blank, Constructed};
+ghost use Rattle.construction.specs.Tables.{ColumnMade, Blank, Constructed};
 
-// Pick t of column n at a drawn number: picked, stored and marked. 1 where it was relaxed, else 0.
-fn place(rows: &mut [u16], n: usize, t: usize, loads: &[u16], marks: &mut [u8], drawn: u64) -> usize
-    requires { ⌜ (t < 3) × Begun (length (now loads)) n t (now rows) (now loads) (now marks) ⌝ }
-    ensures { λ r. ⌜ Placed (length (now (loads .entry))) n t drawn (now (rows .entry)) (now (loads .entry)) r
-        (now (rows .exit)) (now (marks .exit)) ⌝ }
-{
-    let at = 3 * n;
-    let end = at + t;
-    let taken = picking::pick_row(loads, marks, &rows[at..end], drawn);
-    let row = taken.row;
-    columns::mark_together(marks, rows, n, row);
-    rows[end] = row as u16;
-    taken.relaxed
-}
-
-// Column n, of which three rows stand in the table: sorted and counted, and its flags cleared for the next.
-fn finish_column(rows: &mut [u16], n: usize, loads: &mut [u16], marks: &mut [u8])
-    requires { ⌜ Begun (length (now loads)) n 3 (now rows) (now loads) (now marks) ⌝ }
-    ensures { λ _. ⌜ Finished (length (now (loads .entry))) n (columnAt (now (rows .entry)) n) (now (rows .entry))
-        (now (rows .exit)) (now (loads .exit)) (now (marks .exit)) ⌝ }
-{
-    let at = 3 * n;
-    let end = at + 3;
-    columns::sort_column(&mut rows[at..end]);
-    columns::add_loads(loads, &rows[at..end]);
-    columns::clear_marks(marks);
-}
-
-// From here on one generator is lent: "the generator's state is lent and advanced once per pick". The functions that take
+// One generator is lent: "the generator's state is lent and advanced once per pick". The functions that take
 // or make the reference are thin: a pick draws and places, a column makes three picks, and the columns are made in turn.
 
 // Pick t of column n at the lent generator's next draw.
@@ -56,7 +28,7 @@ fn one_pick(
         (now (rows .exit)) (now (marks .exit)) ⌝ }
 {
     let drawn = xorshift::next(generator);
-    place(rows, n, t, loads, marks, drawn)
+    placing::place(rows, n, t, loads, marks, drawn)
 }
 
 // Column n: three picks, finished. How many of them were relaxed.
@@ -74,7 +46,7 @@ fn column(
     let first = one_pick(generator, rows, n, 0, loads, marks);
     let second = one_pick(generator, rows, n, 1, loads, marks);
     let third = one_pick(generator, rows, n, 2, loads, marks);
-    finish_column(rows, n, loads, marks);
+    placing::finish_column(rows, n, loads, marks);
     first + second + third
 }
 

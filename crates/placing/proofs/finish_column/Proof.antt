@@ -1,8 +1,8 @@
--- `construction::finish_column` meets its contract: what is put back is the column, sorted, and its rows are counted. Assumes nothing.
-use Rattle.construction.proofs.Made.{whole-column, v-below, room, finished-column}
+-- `placing::finish_column` meets its contract: what is put back is the column, sorted, and its rows are counted. Assumes nothing.
+use Rattle.placing.proofs.Finished.{whole-column, v-below, room, finished-column}
 use borrow.Author.Needs.{needs}
-use Rattle.construction.proofs.finish_column.Statement.{statement}
-use Rattle.construction.proofs.finish_column.Tie as tie
+use Rattle.placing.proofs.finish_column.Statement.{statement}
+use Rattle.placing.proofs.finish_column.Tie as tie
 
 -- after `sort_column`: the table, the loads and the flags as they were passed
 abbrev start : tie.After-sort-column → tie.Start

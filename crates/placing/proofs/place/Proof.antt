@@ -1,10 +1,10 @@
--- `construction::place` meets its contract: the pick from the tables is the definition's, and it is marked. Assumes nothing.
+-- `placing::place` meets its contract: the pick from the tables is the definition's, and it is marked. Assumes nothing.
 use native.Mathlib.Omega.{arith}
 use Rattle.picking.specs.Searches.{choiceOf}
-use Rattle.construction.proofs.Picks.{before-below, placed}
+use Rattle.placing.proofs.Picks.{before-below, placed}
 use borrow.Author.Needs.{needs}
-use Rattle.construction.proofs.place.Statement.{statement}
-use Rattle.construction.proofs.place.Tie as tie
+use Rattle.placing.proofs.place.Statement.{statement}
+use Rattle.placing.proofs.place.Tie as tie
 
 -- after `pick_row`: the table, the loads and the flags as they were passed
 abbrev start : tie.After-pick-row → tie.Start
