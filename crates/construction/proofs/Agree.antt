@@ -10,15 +10,19 @@ use lib.Dec.{leb, ltb, eqb, eqb·suc-zero}
 use lib.ListN.{length, getD, set, take, drop, length-set, length-drop, length-replicate, getD-replicate}
 use lib.Seq.{getD-take, getD-drop, length-take-le}
 use Rattle.xorshift.specs.Draw.{draw}
-use Rattle.construction.specs.Columns.{row, Made, holds, together, skipped, times, load, leastOf, search, settled, upFrom, pick, onePick, picks}
-use Rattle.construction.specs.Columns.{insert, sorted, finished, nextColumn, made}
-use Rattle.construction.specs.Quick.{marked, markedIf, markedBy, marksOf, Best, best, none, lessOf, met, scan, foundIn, quickSearch}
-use Rattle.construction.specs.Quick.{quickPick, loaded, Kept, quickOnePick, quickPicks, quickFinished, quickColumn, quickColumns, quick}
-use Rattle.construction.specs.Tables.{metRow, metRows, loadAt, flagAt, Loads}
-use Rattle.construction.proofs.Rows.{either}
-use Rattle.construction.proofs.Searches.{met-round}
-use Rattle.construction.proofs.Marks.{flag-set-at, load-set-at, or-swap}
-use Rattle.construction.proofs.Picks.{search-same}
+use Rattle.columns.specs.Rows.{holds, together, times, insert, sorted}
+use Rattle.columns.specs.Tables.{flagAt}
+use Rattle.columns.proofs.Marks.{flag-set-at, load-set-at, or-swap}
+use Rattle.picking.specs.Picks.{row, leastOf, search, settled, upFrom}
+use Rattle.picking.specs.Searches.{metRow, metRows, loadAt}
+use Rattle.picking.proofs.Rows.{either}
+use Rattle.picking.proofs.Searches.{met-round}
+use Rattle.placing.specs.OnePick.{skipped, load, pick}
+use Rattle.placing.specs.Tables.{Loads}
+use Rattle.placing.proofs.Picks.{search-same}
+use Rattle.construction.specs.Columns.{Made, onePick, picks, finished, nextColumn, made}
+use Rattle.construction.specs.Quick.{marked, markedIf, markedBy, marksOf, Best, best, none, lessOf, met, scan, foundIn, quickSearch, quickPick, loaded}
+use Rattle.construction.specs.Quick.{Kept, quickOnePick, quickPicks, quickFinished, quickColumn, quickColumns, quick}
 
 -- ---- the marks
 marked-length : (c fs : List ℕ) → length (marked c fs) ≡ length fs

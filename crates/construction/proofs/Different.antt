@@ -12,9 +12,12 @@ use borrow.Author.Tests.{ne-eqb, eqb-true, eqb-false}
 use lib.Dec.{eqb}
 use lib.Arith.{lt-of-le-ne}
 use lib.ListN.{length, length-append}
-use Rattle.construction.specs.Columns.{upFrom, onceRound, holds, together, skipped, load, search, firstOutside, pick, onePick, picks, times}
-use Rattle.construction.proofs.Columns.{holds-append}
-use Rattle.construction.proofs.Rows.{settled-has, search-free}
+use Rattle.columns.specs.Rows.{holds, together, times}
+use Rattle.columns.proofs.Columns.{holds-append}
+use Rattle.picking.specs.Picks.{upFrom, onceRound, search, firstOutside}
+use Rattle.picking.proofs.Rows.{settled-has, search-free}
+use Rattle.placing.specs.OnePick.{skipped, load, pick}
+use Rattle.construction.specs.Columns.{onePick, picks}
 
 -- a row that is not skipped is none of those picked
 skipped-out : (cs : List (List ℕ)) (picked : List ℕ) (r : ℕ) → skipped cs picked r ≡ false → holds picked r ≡ false

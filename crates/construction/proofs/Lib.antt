@@ -1,7 +1,3 @@
-pub mod Rows
-pub mod Searches
-pub mod Columns
-pub mod Marks
 pub mod Picks
 pub mod Made
 pub mod Agree

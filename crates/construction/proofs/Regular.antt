@@ -6,9 +6,12 @@ use Prim.Native.Nat.{ℕ, zero, suc, _%_, _≤_, _<_}
 use native.Mathlib.Nat.{mod-lt}
 use native.Mathlib.Omega.{arith}
 use lib.ListN.{length}
-use Rattle.construction.specs.Columns.{skipped, load, search, pick, onePick, picks, times, sorted, finished, nextColumn, made}
-use Rattle.construction.proofs.Rows.{Each, each-append, each-sorted, settled-has, search-below, outside-below}
-use Rattle.construction.proofs.Made.{sorted-length}
+use Rattle.columns.specs.Rows.{times, sorted}
+use Rattle.picking.specs.Picks.{search}
+use Rattle.picking.proofs.Rows.{Each, each-append, each-sorted, settled-has, search-below, outside-below}
+use Rattle.placing.specs.OnePick.{skipped, load, pick}
+use Rattle.placing.proofs.Finished.{sorted-length}
+use Rattle.construction.specs.Columns.{onePick, picks, finished, nextColumn, made}
 use Rattle.construction.proofs.Agree.{times-sorted}
 use Rattle.construction.proofs.Different.{three-different, different-once}
 

@@ -6,7 +6,9 @@ use Prim.Native.Nat.{ℕ, zero, suc, _+_, _%_}
 use lib.Dec.{ltb}
 use lib.ListN.{getD, take, drop, set, replicate}
 use Rattle.xorshift.specs.Draw.{draw}
-use Rattle.construction.specs.Columns.{Found, row, nothing, Choice, Picks, Made, holds, settled, finished}
+use Rattle.columns.specs.Rows.{holds}
+use Rattle.picking.specs.Picks.{Found, row, nothing, Choice, settled}
+use Rattle.construction.specs.Columns.{Picks, Made, finished}
 
 -- 1 at each of the rows
 unfoldable pub marked : List ℕ → List ℕ → List ℕ

@@ -10,7 +10,7 @@ use borrow.Author.Tests.{ne-eqb}
 use lib.Dec.{eqb, eqb·suc-suc}
 use lib.ListN.{length, getD, take, replicate, length-append, length-replicate}
 use lib.Seq.{take-all}
-use Rattle.construction.specs.Columns.{times, holds}
+use Rattle.columns.specs.Rows.{times, holds}
 use Rattle.tanner.specs.Checks.{Word, Checks, parity, count, lowBits}
 use Rattle.tanner.proofs.Count.{low-at}
 use Rattle.staircase.specs.Staircase.{taps, parityEntries, checkRow, checkRows}

@@ -9,7 +9,8 @@ use borrow.Author.Tests.{ne-eqb, eqb-true, eqb-false}
 use lib.Arith.{lt-of-le-ne}
 use lib.Dec.{eqb}
 use lib.ListN.{length, length-append, length-reverse}
-use Rattle.construction.specs.Columns.{holds, times, made, nextColumn, finished}
+use Rattle.columns.specs.Rows.{holds, times}
+use Rattle.construction.specs.Columns.{made, nextColumn, finished}
 use Rattle.construction.specs.Codes.{Code}
 use Rattle.construction.proofs.Regular.{InRows, Regular, none, more, columns-regular}
 use Rattle.tanner.specs.Flat.{joined}

@@ -7,7 +7,7 @@ use Prim.Native.Nat.{ℕ, zero, suc, _+_, _≤_, _<_}
 use native.Mathlib.Nat.{add-zero}
 use native.Mathlib.Omega.{arith}
 use lib.ListN.{length, getD}
-use Rattle.construction.specs.Columns.{holds}
+use Rattle.columns.specs.Rows.{holds}
 use Rattle.construction.specs.Codes.{Code, blockLength}
 use Rattle.tanner.specs.Flat.{Below, joined}
 use Rattle.tanner.proofs.Below.{below-none, below-cons, below-append}

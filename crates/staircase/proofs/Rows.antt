@@ -5,26 +5,11 @@ use mathlib.Core.List.{List, [], _∷_, reverse}
 use Prim.Native.Nat.{ℕ}
 use native.Mathlib.Omega.{arith}
 use Rattle.xorshift.specs.Draw.{draw, xor, mixed}
-use Rattle.construction.specs.Columns.{Made, holds, settled, sorted, insert, upFrom, firstOutside, finished, made, rowsOf, laidBefore}
-use Rattle.construction.specs.Quick.{
-  marked,
-  markedIf,
-  markedBy,
-  marksOf,
-  lessOf,
-  met,
-  scan,
-  foundIn,
-  quickSearch,
-  quickPick,
-  loaded,
-  quickOnePick,
-  quickPicks,
-  quickFinished,
-  quickColumn,
-  quickColumns,
-  quick,
-}
+use Rattle.columns.specs.Rows.{holds, sorted, insert}
+use Rattle.picking.specs.Picks.{settled, upFrom, firstOutside}
+use Rattle.construction.specs.Columns.{Made, finished, made, rowsOf, laidBefore}
+use Rattle.construction.specs.Quick.{marked, markedIf, markedBy, marksOf, lessOf, met, scan, foundIn, quickSearch, quickPick, loaded, quickOnePick, quickPicks}
+use Rattle.construction.specs.Quick.{quickFinished, quickColumn, quickColumns, quick}
 use Rattle.construction.specs.Codes.{n512r12, n576r23, n512r34, messageRows, relaxedPicks}
 use Rattle.construction.proofs.Agree.{agree}
 use Rattle.slots.specs.Layout.{threes}

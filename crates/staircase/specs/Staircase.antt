@@ -3,7 +3,7 @@
 use mathlib.Core.Bool.{cond}
 use mathlib.Core.List.{List, [], _∷_, _++_}
 use Prim.Native.Nat.{ℕ, zero, suc, _+_, _%_}
-use Rattle.construction.specs.Columns.{holds}
+use Rattle.columns.specs.Rows.{holds}
 use Rattle.tanner.specs.Checks.{Word, Checks, parity, lowBits}
 
 -- the message columns that row i holds, ascending; the first of the columns is column j

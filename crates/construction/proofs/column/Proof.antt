@@ -37,17 +37,18 @@ use Rattle.walks.proofs.Frame.{Spot, Cell, frame, begins, var, loc, con, args, 
 use Rattle.walks.proofs.Lend.{Handle, handle, pointer, counted, Ref, Slice}
 use Rattle.walks.proofs.Loans.{Loan, lend, lend-slice, share-slice, give, lent-args, takes, calls-lent, own-args, gathers, scatters}
 use Rattle.walks.proofs.Walk.{Walk, walking, meets-by}
-use Rattle.construction.specs.Tables.{columnAt, Begun, Placed, Finished}
+use Rattle.columns.specs.Tables.{columnAt}
+use Rattle.placing.specs.Tables.{Begun, Placed, Finished}
 use Rattle.construction.proofs.Picks.{picked-three}
 use Rattle.construction.proofs.Made.{column-made}
 use Rattle.construction.proofs.one_pick as pick
 use Rattle.construction.proofs.one_pick.Symbol as pick-def
 use Rattle.construction.proofs.one_pick.Symbol.{name as #construction·one-pick}
 use Rattle.construction.proofs.one_pick.Met as pick-thm
-use Rattle.construction.proofs.finish_column as finish
-use Rattle.construction.proofs.finish_column.Symbol as finish-def
-use Rattle.construction.proofs.finish_column.Symbol.{name as #construction·finish-column}
-use Rattle.construction.proofs.finish_column.Met as finish-thm
+use Rattle.placing.proofs.finish_column as finish
+use Rattle.placing.proofs.finish_column.Symbol as finish-def
+use Rattle.placing.proofs.finish_column.Symbol.{name as #placing·finish-column}
+use Rattle.placing.proofs.finish_column.Met as finish-thm
 use Rattle.construction.proofs.column.Key.{name as #construction·column}
 use Rattle.construction.proofs.column as this
 use Rattle.construction.proofs.column.Statement as stated
@@ -58,7 +59,7 @@ params = kept-ref 0 tt T.the-row ∷ kept-slice 1 tt u16 ∷ plain-number ∷ ke
 
 module _ {M : Type 1} (𝓤 : URA M) (H : Heap 𝓤) (A : Atoms 𝓤) (W : Given 𝓤 H A) (mem : Memory → SProp 𝓤) (run : Routine → Fun 𝓤) (𝓣 : Tables 𝓤 H)
     (known-pick : Triple 𝓤 (𝓣 .C #construction·one-pick) (Callee 𝓤 H A pick.ended (pick.clauses 𝓤 H A mem run)))
-    (known-finish : Triple 𝓤 (𝓣 .C #construction·finish-column) (Callee 𝓤 H A finish.ended (finish.clauses 𝓤 H A mem run))) where
+    (known-finish : Triple 𝓤 (𝓣 .C #placing·finish-column) (Callee 𝓤 H A finish.ended (finish.clauses 𝓤 H A mem run))) where
   module _ (generator rows loads marks : Handle) (n : ℕ) (xs₀ ls fs₀ : List ℕ) (n-fits : n < 2 ^ 64)
       (xs-fit : length xs₀ < 2 ^ 64) (ls-fit : length ls < 2 ^ 64) (fs-fit : length fs₀ < 2 ^ 64) where
     -- ---- a pick
@@ -162,4 +163,4 @@ column-spec 𝓤 H 𝓜 𝓖 𝓡 =
     (cited 𝓤 H (Callee 𝓤 H (𝓖 .A) pick.ended (pick.clauses 𝓤 H (𝓖 .A) (𝓜 .mem)
     (𝓡 .run))) 𝓜 𝓡 code.env #construction·one-pick pick-def.routine code.calls-construction·one-pick (pick-thm.met 𝓤 H 𝓜 𝓖 𝓡))
     (cited 𝓤 H (Callee 𝓤 H (𝓖 .A) finish.ended (finish.clauses 𝓤 H (𝓖 .A) (𝓜 .mem)
-    (𝓡 .run))) 𝓜 𝓡 code.env #construction·finish-column finish-def.routine code.calls-construction·finish-column (finish-thm.met 𝓤 H 𝓜 𝓖 𝓡)))
+    (𝓡 .run))) 𝓜 𝓡 code.env #placing·finish-column finish-def.routine code.calls-placing·finish-column (finish-thm.met 𝓤 H 𝓜 𝓖 𝓡)))

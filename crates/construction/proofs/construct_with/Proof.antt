@@ -39,7 +39,8 @@ use Rattle.walks.proofs.Frame.{sets, sets-as, sets-last, stores, passes-on, for
 use Rattle.walks.proofs.Lend.{Handle, handle, pointer, counted, Ref, Slice}
 use Rattle.walks.proofs.Loans.{Loan, lend, lend-slice, give, lent-args, takes, calls-lent, own-args, gathers, scatters}
 use Rattle.walks.proofs.Walk.{Post, Walk, walking, meets-by}
-use Rattle.construction.specs.Tables.{Begun, ColumnMade, Blank, Constructed}
+use Rattle.placing.specs.Tables.{Begun}
+use Rattle.construction.specs.Tables.{ColumnMade, Blank, Constructed}
 use Rattle.construction.proofs.Made.{Built, built-none, built-begun, built-more, built-all}
 use Rattle.construction.proofs.column as column
 use Rattle.construction.proofs.column.Symbol as column-def

@@ -36,11 +36,11 @@ use Rattle.xorshift.proofs.next as next
 use Rattle.xorshift.proofs.next.Symbol as next-def
 use Rattle.xorshift.proofs.next.Symbol.{name as #xorshift·next}
 use Rattle.xorshift.proofs.next.Met as next-thm
-use Rattle.construction.specs.Tables.{Begun, Placed}
-use Rattle.construction.proofs.place as place
-use Rattle.construction.proofs.place.Symbol as place-def
-use Rattle.construction.proofs.place.Symbol.{name as #construction·place}
-use Rattle.construction.proofs.place.Met as place-thm
+use Rattle.placing.specs.Tables.{Begun, Placed}
+use Rattle.placing.proofs.place as place
+use Rattle.placing.proofs.place.Symbol as place-def
+use Rattle.placing.proofs.place.Symbol.{name as #placing·place}
+use Rattle.placing.proofs.place.Met as place-thm
 use Rattle.construction.proofs.one_pick.Key.{name as #construction·one-pick}
 use Rattle.construction.proofs.one_pick as this
 use Rattle.construction.proofs.one_pick.Statement as stated
@@ -51,7 +51,7 @@ params = given-ref 0 tt T.the-row ∷ given-slice 1 tt u16 ∷ plain-number ∷ 
 
 module _ {M : Type 1} (𝓤 : URA M) (H : Heap 𝓤) (A : Atoms 𝓤) (W : Given 𝓤 H A) (mem : Memory → SProp 𝓤) (run : Routine → Fun 𝓤) (𝓣 : Tables 𝓤 H)
     (known-next : Triple 𝓤 (𝓣 .C #xorshift·next) (Callee 𝓤 H A next.ended (next.clauses 𝓤 H A mem run)))
-    (known-place : Triple 𝓤 (𝓣 .C #construction·place) (Callee 𝓤 H A place.ended (place.clauses 𝓤 H A mem run))) where
+    (known-place : Triple 𝓤 (𝓣 .C #placing·place) (Callee 𝓤 H A place.ended (place.clauses 𝓤 H A mem run))) where
   module _ (generator rows loads marks : Handle) (s n t : ℕ) (xs ls fs : List ℕ) (n-fits : n < 2 ^ 64) (t-fits : t < 2 ^ 64)
       (xs-fit : length xs < 2 ^ 64) (ls-fit : length ls < 2 ^ 64) (fs-fit : length fs < 2 ^ 64) (ok : (t < 3) × Begun (length ls) n t xs ls fs) where
     -- the arguments, those of `next`, and those of `place` where r was drawn
@@ -107,4 +107,4 @@ one-pick-spec 𝓤 H 𝓜 𝓖 𝓡 =
     (cited 𝓤 H (Callee 𝓤 H (𝓖 .A) next.ended (next.clauses 𝓤 H (𝓖 .A) (𝓜 .mem) (𝓡 .run))) 𝓜 𝓡 code.env #xorshift·next next-def.routine code.calls-xorshift·next
     (next-thm.met 𝓤 H 𝓜 𝓖 𝓡))
     (cited 𝓤 H (Callee 𝓤 H (𝓖 .A) place.ended (place.clauses 𝓤 H (𝓖 .A) (𝓜 .mem)
-    (𝓡 .run))) 𝓜 𝓡 code.env #construction·place place-def.routine code.calls-construction·place (place-thm.met 𝓤 H 𝓜 𝓖 𝓡)))
+    (𝓡 .run))) 𝓜 𝓡 code.env #placing·place place-def.routine code.calls-placing·place (place-thm.met 𝓤 H 𝓜 𝓖 𝓡)))

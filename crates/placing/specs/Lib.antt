@@ -1,0 +1,2 @@
+pub mod OnePick
+pub mod Tables
