@@ -6,12 +6,6 @@ use lib.Dec.{eqb}
 use lib.ListN.{length, getD}
 use Rattle.refusal.specs.Outcome.{Condition, _when_}
 
--- "input not its fixed length (.. (174,91) 12 bytes ..)", "(174,91) message has a set bit among the low five of byte 11",
--- "an output not exactly its length"
-abbrev pub encodeRefusals : List ℕ → List ℕ → List Condition
-encodeRefusals message codeword =
-    (4 when not (eqb (length message) 12)) ∷ (6 when not (eqb (getD message 11 0 % 32) 0)) ∷ (8 when not (eqb (length codeword) 22)) ∷ []
-
 -- "input not its fixed length (.. (174,91) .. 174 values or bits ..)"
 abbrev pub countRefusals : List ℕ → List Condition
 countRefusals hard = (4 when not (eqb (length hard) 174)) ∷ []
