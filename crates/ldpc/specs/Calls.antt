@@ -1,9 +1,9 @@
--- What the calls of this crate answer: the cases of their enums, and the conditions on which each call is turned down, in order.
+-- The conditions on which `ldpc_count_errors` is turned down, in order.
 use mathlib.Core.Bool.{not}
 use mathlib.Core.List.{List, [], _∷_}
-use Prim.Native.Nat.{ℕ, _%_}
+use Prim.Native.Nat.{ℕ}
 use lib.Dec.{eqb}
-use lib.ListN.{length, getD}
+use lib.ListN.{length}
 use Rattle.refusal.specs.Outcome.{Condition, _when_}
 
 -- "input not its fixed length (.. (174,91) .. 174 values or bits ..)"

@@ -1,4 +1,4 @@
-// The tables of the (174,91) code, and its Tanner graph in arrays. Written by tools/ldpc_tables.py.
+// The checks of the (174,91) code in tables, and its Tanner graph in arrays. Written by tools/ldpc_tables.py.
 
 // The parity checks: 83 rows of up to 7 positions, counted from 1; 0 means no entry.
 pub const NM: [u8; 581] = [

@@ -1,4 +1,4 @@
--- What the calls of this crate answer: the cases of their enums, and the conditions on which each call is turned down, in order.
+-- The conditions on which `ldpc_encode` is turned down, in order.
 use mathlib.Core.Bool.{not}
 use mathlib.Core.List.{List, [], _∷_}
 use Prim.Native.Nat.{ℕ, _%_}

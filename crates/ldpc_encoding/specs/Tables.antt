@@ -1,4 +1,4 @@
--- The generator table of the Rust's `ldpc.rs`, row after row: "the definition takes the file's tables" (document 01).
+-- The generator of the Rust's `ldpc.rs`, row after row: "the definition takes the file's tables" (document 01).
 -- Written by tools/ldpc_tables.py.
 use mathlib.Core.List.{List, [], _∷_}
 use Prim.Native.Nat.{ℕ}

@@ -1,4 +1,4 @@
-// The generator table of the (174,91) code. Written by tools/ldpc_tables.py.
+// The generator of the (174,91) code. Written by tools/ldpc_tables.py.
 
 // The parity generator: 83 rows of 12 bytes, most significant bit first. Row i gives parity bit i.
 pub const GENERATOR: [u8; 996] = [
