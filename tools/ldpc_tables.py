@@ -3,11 +3,11 @@
 
     ORION_SRC=folder python3 tools/ldpc_tables.py crates/ldpc
 
-ORION_SRC names a folder that holds the Rust's ldpc.rs. Written are src/tables.rt (the constants of the code), specs/Tables.antt
-(the Rust's four tables as lists), proofs/Arrays.antt (the arrays of the Tanner graph as lists) and, beside them, proofs/CheckSets.antt
-of crates/codewords (the checks to add up for each parity bit). The graph's arrays and the sets are worked out here from NM and
-NUM_ROWS; that they are right is proved in proofs/Graph.antt and BySlots.antt, and in Codewords.antt of crates/codewords, and nothing
-rests on this script. Run `rt fmt` afterwards.
+ORION_SRC names a folder that holds the Rust's ldpc.rs. Written are src/tables.rt (the constants of the checks), specs/Tables.antt
+(the Rust's tables of them as lists), proofs/Arrays.antt (the arrays of the Tanner graph as lists) and, beside them, src/tables.rt and
+specs/Tables.antt of crates/ldpc_encoding (the generator) and proofs/CheckSets.antt of crates/codewords (the checks to add up for each
+parity bit). The graph's arrays and the sets are worked out here from NM and NUM_ROWS; that they are right is proved in proofs/Graph.antt
+and BySlots.antt, and in Codewords.antt of crates/codewords, and nothing rests on this script. Run `rt fmt` afterwards.
 """
 import os
 import re
@@ -68,8 +68,10 @@ def main():
     edges = [slot[e] for b in range(174) for e in range(len(check_bits)) if check_bits[e] == b]
     pads = [83 * 6 + c for c in range(83) if num_rows[c] == 6]
 
-    rust = [
+    made = [
         ("The parity generator: 83 rows of 12 bytes, most significant bit first. Row i gives parity bit i.", "GENERATOR", generator, 12, "0x%02x"),
+    ]
+    rust = [
         ("The parity checks: 83 rows of up to 7 positions, counted from 1; 0 means no entry.", "NM", nm, 7, "%d"),
         ("How many positions each row of NM has.", "NUM_ROWS", num_rows, 20, "%d"),
         ("The checks of each of the 174 positions, three a position, counted from 1.", "MN", mn, 3, "%d"),
@@ -81,18 +83,24 @@ def main():
         ("By slots: the place after the last entry of each check of six positions.", "PADS", pads, "slotPads"),
     ]
 
+    encoding = os.path.join(crate, "../ldpc_encoding")
+    with open(os.path.join(encoding, "src/tables.rt"), "w", encoding="utf-8") as f:
+        f.write("// The generator of the (174,91) code. Written by tools/ldpc_tables.py.\n\n")
+        f.write("\n".join(constant(note, name, "u8", t, shown) for note, name, t, _, shown in made))
+
     with open(os.path.join(crate, "src/tables.rt"), "w", encoding="utf-8") as f:
-        f.write("// The tables of the (174,91) code, and its Tanner graph in arrays. Written by tools/ldpc_tables.py.\n\n")
+        f.write("// The checks of the (174,91) code in tables, and its Tanner graph in arrays. Written by tools/ldpc_tables.py.\n\n")
         parts = [constant(note, name, "u8", t, shown) for note, name, t, _, shown in rust]
         parts += [constant(note, name, "u16", t, "%d") for note, name, t, _ in graph]
         f.write("\n".join(parts))
 
     names = {"GENERATOR": "generator", "NM": "nm", "NUM_ROWS": "numRows", "MN": "mn"}
-    with open(os.path.join(crate, "specs/Tables.antt"), "w", encoding="utf-8") as f:
-        f.write(head("-- The four tables of the Rust's `ldpc.rs`, row after row: \"the definition takes the file's tables\" (document 01).\n"
-                     "-- Written by tools/ldpc_tables.py.\n"))
-        for note, name, t, a_line, shown in rust:
-            f.write("\n" + listed(note, names[name], t, a_line, shown))
+    for folder, what, tables in ((encoding, "generator", made), (crate, "tables of the checks", rust)):
+        with open(os.path.join(folder, "specs/Tables.antt"), "w", encoding="utf-8") as f:
+            f.write(head("-- The %s of the Rust's `ldpc.rs`, row after row: \"the definition takes the file's tables\" (document 01).\n"
+                         "-- Written by tools/ldpc_tables.py.\n" % what))
+            for note, name, t, a_line, shown in tables:
+                f.write("\n" + listed(note, names[name], t, a_line, shown))
 
     with open(os.path.join(crate, "proofs/Arrays.antt"), "w", encoding="utf-8") as f:
         f.write(head("-- The Tanner graph's arrays, as the source's constants have them; `Graph.antt` and `BySlots.antt` show that they are right, by computation.\n"

@@ -4,7 +4,7 @@ use Prim.Native.Nat.{ℕ}
 use lib.Ieee.{Float}
 use Rattle.staircase.specs.Codes.{columns}
 use Rattle.staircase.specs.Staircase.{encoded}
-use Rattle.ldpc.specs.Encoding.{encodeBits}
+use Rattle.ldpc_encoding.specs.Encoding.{encodeBits}
 use Rattle.tanner.specs.Checks.{Word}
 use Rattle.softmath.specs.declared.DecodeRule.{DecodeRule}
 use Rattle.belief.specs.Rounds.{Decode}

@@ -13,11 +13,11 @@ use Rattle.bits.proofs.AreBits.{AreBits, none, more, areBits-append, areBits-ta
 use Rattle.bits.proofs.Packed.{unpacked, packed-bytes}
 use Rattle.tanner.specs.Checks.{Word}
 use Rattle.tanner.specs.Flat.{Below}
-use Rattle.ldpc.specs.Encoding.{under, rowsOfTwelve, parityBits, encodeBits, codewordOf}
-use Rattle.ldpc.specs.Tables.{generator}
-use Rattle.ldpc.proofs.Codeword.{packed-at, packed-length, message-slack}
+use Rattle.ldpc_encoding.specs.Encoding.{under, rowsOfTwelve, parityBits, encodeBits, codewordOf}
+use Rattle.ldpc_encoding.specs.Tables.{generator}
+use Rattle.ldpc_encoding.proofs.Codeword.{packed-at, packed-length, message-slack}
 use Rattle.codewords.specs.Codewords.{Codeword, Packed, wordOf, messageOf, Codewords}
-use Rattle.ldpc.proofs.Parity.{under-bit}
+use Rattle.ldpc_encoding.proofs.Parity.{under-bit}
 use Rattle.codewords.proofs.Span.{Row}
 use Rattle.codewords.proofs.Codewords.{zero-count-encoded, encoded-zero-count}
 

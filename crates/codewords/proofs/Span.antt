@@ -8,8 +8,8 @@ use native.Mathlib.Nat.{add-mul, mul-assoc, mul-comm, div-add-mod'}
 use native.Mathlib.Omega.{arith}
 use lib.ListN.{getD, take}
 use Rattle.tanner.specs.Checks.{Word, parity}
-use Rattle.ldpc.specs.Encoding.{under}
-use Rattle.ldpc.proofs.Parity.{under-bit}
+use Rattle.ldpc_encoding.specs.Encoding.{under}
+use Rattle.ldpc_encoding.proofs.Parity.{under-bit}
 use Rattle.ldpc.proofs.Tests.{and-left, and-right}
 
 -- one entry, 0 or 1, for each position; past its end a row holds 0

@@ -7,7 +7,7 @@ use Rattle.bits.specs.Bits.{bits, packed}
 use Rattle.tanner.specs.Checks.{Word, count}
 use Rattle.tanner.specs.Flat.{Below}
 use Rattle.ldpc.specs.Code174.{checks}
-use Rattle.ldpc.specs.Encoding.{encodeBits, codewordOf}
+use Rattle.ldpc_encoding.specs.Encoding.{encodeBits, codewordOf}
 
 -- a word of 174 bits that has count 0
 pub record Codeword (w : Word) : Type 0 where

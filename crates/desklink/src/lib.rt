@@ -14,7 +14,8 @@ ghost use Rattle.rules.specs.Rules.{asStored};
 ghost use Rattle.tanner.specs.Checks.{syndromeOfBytes};
 ghost use Rattle.ldpc.specs.Calls as ldpc·calls;
 ghost use Rattle.ldpc.specs.Code174.{checks};
-ghost use Rattle.ldpc.specs.Encoding.{codewordOf};
+ghost use Rattle.ldpc_encoding.specs.Calls as encoding·calls;
+ghost use Rattle.ldpc_encoding.specs.Encoding.{codewordOf};
 ghost use Rattle.ldpc_codes.specs.Calls as staircase·calls;
 ghost use Rattle.decoders.specs.Calls as decoders·calls;
 ghost use Rattle.batch.specs.Pairs.{pairsOf};
@@ -59,11 +60,11 @@ pub extern "C" fn desklink_ft8_extract_crc(a91: &[u8]) -> i32
 
 #[no_mangle]
 pub extern "C" fn desklink_ldpc_encode(message: &[u8], codeword: &mut [u8]) -> i32
-    ensures { λ n. ⌜ n ≡ codedUnit (judged (ldpc·calls.encodeRefusals (now (message .entry)) (now (codeword .entry))) tt) ⌝ }
+    ensures { λ n. ⌜ n ≡ codedUnit (judged (encoding·calls.encodeRefusals (now (message .entry)) (now (codeword .entry))) tt) ⌝ }
     ensures { λ _. ⌜ now (codeword .exit)
-        ≡ kept (ldpc·calls.encodeRefusals (now (message .entry)) (now (codeword .entry))) (now (codeword .entry)) (codewordOf (now (message .entry))) ⌝ }
+        ≡ kept (encoding·calls.encodeRefusals (now (message .entry)) (now (codeword .entry))) (now (codeword .entry)) (codewordOf (now (message .entry))) ⌝ }
 {
-    coded::status_code(ldpc::ldpc_encode(message, codeword))
+    coded::status_code(ldpc_encoding::ldpc_encode(message, codeword))
 }
 
 // `first` gets the lowest check that the count includes, or 65535.

@@ -67,7 +67,7 @@ fn print_refused() {
 
 fn encode(block: &[u8; 12], checksum: u16) {
     let mut codeword = [0xFFu8; 22];
-    match ldpc::ldpc_encode(block, &mut codeword) {
+    match ldpc_encoding::ldpc_encode(block, &mut codeword) {
         Status::Done => {
             print_fields(&codeword, checksum);
         }

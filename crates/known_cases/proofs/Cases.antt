@@ -8,7 +8,7 @@ use Rattle.softmath.proofs.Cases.{min-sum-case}
 use Rattle.crc.proofs.Cases.{checksum-cases}
 use Rattle.ldpc.specs.Tables.{nm, numRows}
 use Rattle.ldpc.specs.Code174.{checks, rowsOfSeven}
-use Rattle.ldpc.proofs.Cases.{code-cases}
+use Rattle.ldpc_encoding.proofs.Cases.{code-cases}
 use Rattle.known_cases.proofs.Staircase.{cases0, cases1, cases2}
 use Rattle.belief.specs.Rounds.{initialWord, wordsFrom, roundWords, chosenFrom, chosen, chosenCount, chosenBits}
 use Rattle.softmath.specs.declared.DecodeRule.the-variants.{Ft8}

@@ -1,11 +1,7 @@
 pub mod Arrays
 pub mod Tests
 pub mod Graph
-pub mod Parity
-pub mod Gather
-pub mod Codeword
 pub mod Agreement
 pub mod Counting
-pub mod Cases
 pub mod Sevens
 pub mod BySlots

@@ -1,16 +1,10 @@
--- What the calls of this crate answer: the cases of their enums, and the conditions on which each call is turned down, in order.
+-- The conditions on which `ldpc_count_errors` is turned down, in order.
 use mathlib.Core.Bool.{not}
 use mathlib.Core.List.{List, [], _∷_}
-use Prim.Native.Nat.{ℕ, _%_}
+use Prim.Native.Nat.{ℕ}
 use lib.Dec.{eqb}
-use lib.ListN.{length, getD}
+use lib.ListN.{length}
 use Rattle.refusal.specs.Outcome.{Condition, _when_}
-
--- "input not its fixed length (.. (174,91) 12 bytes ..)", "(174,91) message has a set bit among the low five of byte 11",
--- "an output not exactly its length"
-abbrev pub encodeRefusals : List ℕ → List ℕ → List Condition
-encodeRefusals message codeword =
-    (4 when not (eqb (length message) 12)) ∷ (6 when not (eqb (getD message 11 0 % 32) 0)) ∷ (8 when not (eqb (length codeword) 22)) ∷ []
 
 -- "input not its fixed length (.. (174,91) .. 174 values or bits ..)"
 abbrev pub countRefusals : List ℕ → List Condition

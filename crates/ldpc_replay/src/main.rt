@@ -46,7 +46,7 @@ fn print_codeword(codeword: &[u8; 22]) {
 
 fn print_encoding(message: &[u8; 12]) {
     let mut codeword = [0xFFu8; 22];
-    match ldpc::ldpc_encode(message, &mut codeword) {
+    match ldpc_encoding::ldpc_encode(message, &mut codeword) {
         Status::Done => {
             print_codeword(&codeword);
         }

@@ -6,9 +6,10 @@ use lib.ListN.{replicate}
 use Rattle.bits.specs.Bits.{bitsOf, bits, numberAfter}
 use Rattle.crc.specs.Qex.{bringDown, divide, qex}
 use Rattle.tanner.specs.Checks.{Word, lowBits, parity, count, firstBy}
-use Rattle.ldpc.specs.Tables.{nm, numRows, generator}
+use Rattle.ldpc.specs.Tables.{nm, numRows}
 use Rattle.ldpc.specs.Code174.{rowsOfSeven, checks}
-use Rattle.ldpc.specs.Encoding.{under, rowsOfTwelve, parityBits, encodeBits}
+use Rattle.ldpc_encoding.specs.Tables.{generator}
+use Rattle.ldpc_encoding.specs.Encoding.{under, rowsOfTwelve, parityBits, encodeBits}
 use Rattle.softmath.specs.Single.{zero32}
 use Rattle.softmath.specs.Functions.{decide}
 use Rattle.belief.specs.Rounds.{initialWord, roundWords, wordsFrom, chosenFrom, chosen}

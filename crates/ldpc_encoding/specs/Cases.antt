@@ -5,8 +5,8 @@ use Prim.Native.Nat.{ℕ}
 use lib.ListN.{getD, replicate}
 use Rattle.crc.specs.Cases.{Case}
 use Rattle.tanner.specs.Checks.{countBytes}
 use Rattle.ldpc.specs.Code174.{checks}
-use Rattle.ldpc.specs.Encoding.{codewordOf}
+use Rattle.ldpc_encoding.specs.Encoding.{codewordOf}
 
 -- a list of n that holds x first, and zeros after it
 abbrev pub alone : ℕ → ℕ → List ℕ

@@ -3,10 +3,11 @@ use mathlib.Core.Path.{refl}
 use Rattle.bits.specs.Bits.{bitsOf, bits, numberAfter, packed}
 use Rattle.crc.specs.Cases.{Holds}
 use Rattle.tanner.specs.Checks.{xorFrom, countBytes}
-use Rattle.ldpc.specs.Cases.{codeCases}
+use Rattle.ldpc_encoding.specs.Cases.{codeCases}
 use Rattle.ldpc.specs.Code174.{rowsOfSeven, checks}
-use Rattle.ldpc.specs.Encoding.{under, rowsOfTwelve, parityBits, encodeBits, codewordOf}
-use Rattle.ldpc.specs.Tables.{generator, nm, numRows}
+use Rattle.ldpc_encoding.specs.Encoding.{under, rowsOfTwelve, parityBits, encodeBits, codewordOf}
+use Rattle.ldpc.specs.Tables.{nm, numRows}
+use Rattle.ldpc_encoding.specs.Tables.{generator}
 
 pub code-cases : Holds codeCases
 unfolding bitsOf bits numberAfter packed xorFrom countBytes rowsOfSeven checks under rowsOfTwelve parityBits encodeBits codewordOf generator nm numRows

@@ -1,9 +1,9 @@
--- `ldpc::code_byte` meets its contract: each return is the case of the definition that its tests chose.
+-- `ldpc_encoding::code_byte` meets its contract: each return is the case of the definition that its tests chose.
 use borrow.Author.Tests.{lt-ltb, le-ltb, eq-eqb, ne-eqb}
-use Rattle.ldpc.specs.Bytes.{codeByte}
+use Rattle.ldpc_encoding.specs.Bytes.{codeByte}
 use borrow.Author.Needs.{needs}
-use Rattle.ldpc.proofs.code_byte.Statement.{statement}
-use Rattle.ldpc.proofs.code_byte.Tie as tie
+use Rattle.ldpc_encoding.proofs.code_byte.Statement.{statement}
+use Rattle.ldpc_encoding.proofs.code_byte.Tie as tie
 
 shared-slice-read-result : tie.Need-shared-slice-read-result
 shared-slice-read-result c = search needs

@@ -1,4 +1,4 @@
--- `ldpc::fill` meets its contract. The invariant: each byte before j is the codeword's.
+-- `ldpc_encoding::fill` meets its contract. The invariant: each byte before j is the codeword's.
 use mathlib.Core.Path.{_≡_, _∙_}
 use mathlib.Core.List.{List}
 use Prim.Native.Nat.{ℕ, _+_, _-_, _≤_, _<_}
@@ -7,10 +7,10 @@ use lib.ListN.{length, getD, set}
 use lib.Seq.{getD-set-same, getD-set-other}
 use denote.Ref.{now}
 use borrow.Author.Count.{below-more}
-use Rattle.ldpc.specs.Bytes.{codeByte}
+use Rattle.ldpc_encoding.specs.Bytes.{codeByte}
 use borrow.Author.Needs.{needs}
-use Rattle.ldpc.proofs.fill.Statement.{statement}
-use Rattle.ldpc.proofs.fill.Tie as tie
+use Rattle.ldpc_encoding.proofs.fill.Statement.{statement}
+use Rattle.ldpc_encoding.proofs.fill.Tie as tie
 
 -- one byte more
 byte-more : (f : ℕ → ℕ) (w : List ℕ) (j v : ℕ) → j < length w → v ≡ f j → ((k : ℕ) → k < j → getD w k 0 ≡ f k) → (k : ℕ) → k < j + 1

@@ -1,13 +1,13 @@
--- `ldpc::parity_bits` meets its contract. The invariant: the byte holds the parity bits gathered so far.
+-- `ldpc_encoding::parity_bits` meets its contract. The invariant: the byte holds the parity bits gathered so far.
 use mathlib.Core.Path.{_≡_, refl, ap, _∙_}
 use Prim.Native.Nat.{_-_, _≤_}
 use native.Mathlib.Omega.{arith}
 use denote.Ref.{now}
-use Rattle.ldpc.specs.Bytes.{gathered}
-use Rattle.ldpc.proofs.Gather.{gathered-more}
+use Rattle.ldpc_encoding.specs.Bytes.{gathered}
+use Rattle.ldpc_encoding.proofs.Gather.{gathered-more}
 use borrow.Author.Needs.{needs}
-use Rattle.ldpc.proofs.parity_bits.Statement.{statement}
-use Rattle.ldpc.proofs.parity_bits.Tie as tie
+use Rattle.ldpc_encoding.proofs.parity_bits.Statement.{statement}
+use Rattle.ldpc_encoding.proofs.parity_bits.Tie as tie
 
 abbrev Inv-loop : tie.InvT-loop
 Inv-loop generator message first count byte₀ i₀ byte i = (i ≤ count) × (byte ≡ gathered generator message first i)

@@ -1,15 +1,15 @@
--- `ldpc::ldpc_encode` meets its contract: each refusal by the test that it makes, and the codeword byte by byte.
+-- `ldpc_encoding::ldpc_encode` meets its contract: each refusal by the test that it makes, and the codeword byte by byte.
 use mathlib.Core.Path.{sym, _∙_}
 use native.Mathlib.Omega.{arith}
 use denote.Ref.{now}
 use borrow.Author.Tests.{eq-eqb, ne-eqb}
 use lib.Seq.{ext-getD}
 use Rattle.bits.proofs.Digits.{Bytes}
-use Rattle.ldpc.specs.Tables.{generator}
-use Rattle.ldpc.proofs.Codeword.{codeword-at, codeword-length}
+use Rattle.ldpc_encoding.specs.Tables.{generator}
+use Rattle.ldpc_encoding.proofs.Codeword.{codeword-at, codeword-length}
 use borrow.Author.Needs.{needs}
-use Rattle.ldpc.proofs.ldpc_encode.Statement.{statement}
-use Rattle.ldpc.proofs.ldpc_encode.Tie as tie
+use Rattle.ldpc_encoding.proofs.ldpc_encode.Statement.{statement}
+use Rattle.ldpc_encoding.proofs.ldpc_encode.Tie as tie
 
 returns : tie.Need-returns
 returns c = (simp (ne-eqb _ _ (c .if1 .taken)), simp (ne-eqb _ _ (c .if1 .taken)))

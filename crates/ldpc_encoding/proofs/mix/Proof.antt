@@ -1,12 +1,12 @@
--- `ldpc::mix` meets its contract. The invariant: what is mixed so far, with the rest mixed on, is the whole.
+-- `ldpc_encoding::mix` meets its contract. The invariant: what is mixed so far, with the rest mixed on, is the whole.
 use mathlib.Core.Path.{_≡_}
 use Prim.Native.Nat.{_-_, _≤_}
 use lib.ListN.{length, drop}
-use Rattle.ldpc.specs.Bytes.{mixed}
-use Rattle.ldpc.proofs.Parity.{mixed-more, mixed-done}
+use Rattle.ldpc_encoding.specs.Bytes.{mixed}
+use Rattle.ldpc_encoding.proofs.Parity.{mixed-more, mixed-done}
 use borrow.Author.Needs.{needs}
-use Rattle.ldpc.proofs.mix.Statement.{statement}
-use Rattle.ldpc.proofs.mix.Tie as tie
+use Rattle.ldpc_encoding.proofs.mix.Statement.{statement}
+use Rattle.ldpc_encoding.proofs.mix.Tie as tie
 
 abbrev Inv-loop : tie.InvT-loop
 Inv-loop row message x₀ j₀ x j = (j ≤ length row) × (mixed x (drop j row) (drop j message) ≡ mixed 0 row message)

@@ -12,10 +12,10 @@ use lib.ListN.{length, getD, take, drop, replicate, length-append, length-take, 
 use lib.Seq.{take-at, drop-at, drop-append-add, getD-take, drop-cons, length-take-le, drop-drop, take-all}
 use Rattle.bits.specs.Bits.{bitsOf, bits, numberAfter, number, packed}
 use Rattle.bits.proofs.Digits.{Bytes, bits-length, bits-append, bitsOf-split, number-bits, number-append, packed-bits}
-use Rattle.ldpc.specs.Bytes.{parityAt, gathered, codeByte}
-use Rattle.ldpc.specs.Encoding.{parityBits, encodeBits, codewordOf}
-use Rattle.ldpc.specs.Tables.{generator}
-use Rattle.ldpc.proofs.Gather.{run, run-length, run-split, number-lt, parity-bit, gathered-number, rows-parities}
+use Rattle.ldpc_encoding.specs.Bytes.{parityAt, gathered, codeByte}
+use Rattle.ldpc_encoding.specs.Encoding.{parityBits, encodeBits, codewordOf}
+use Rattle.ldpc_encoding.specs.Tables.{generator}
+use Rattle.ldpc_encoding.proofs.Gather.{run, run-length, run-split, number-lt, parity-bit, gathered-number, rows-parities}
 
 -- byte j of packed bits
 pub packed-at : (n j : ℕ) (bs : List ℕ) → j < n → getD (packed n bs) j 0 ≡ number (take 8 (drop (8 * j) bs))

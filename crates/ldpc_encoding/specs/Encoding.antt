@@ -3,7 +3,7 @@ use mathlib.Core.List.{List, [], _∷_, _++_, map}
 use Prim.Native.Nat.{ℕ, zero, suc, _+_, _*_, _%_}
 use lib.ListN.{take, drop}
 use Rattle.bits.specs.Bits.{bits, packed}
-use Rattle.ldpc.specs.Tables.{generator}
+use Rattle.ldpc_encoding.specs.Tables.{generator}
 
 -- the parity of a message under a row: whether an odd number of places hold 1 in both
 unfoldable pub under : List ℕ → List ℕ → ℕ

@@ -12,9 +12,9 @@ use lib.Pow.{pow-mono}
 use lib.Seq.{drop-drop, length-take-le}
 use Rattle.bits.specs.Bits.{bits, numberAfter, number}
 use Rattle.bits.proofs.Digits.{number-append}
-use Rattle.ldpc.specs.Bytes.{byteParity, mixed, parityAt, gathered}
-use Rattle.ldpc.specs.Encoding.{under, rowsOfTwelve}
-use Rattle.ldpc.proofs.Parity.{byte-bit, row-parity, under-front}
+use Rattle.ldpc_encoding.specs.Bytes.{byteParity, mixed, parityAt, gathered}
+use Rattle.ldpc_encoding.specs.Encoding.{under, rowsOfTwelve}
+use Rattle.ldpc_encoding.proofs.Parity.{byte-bit, row-parity, under-front}
 
 -- ---- the answers of f at k numbers from a on
 

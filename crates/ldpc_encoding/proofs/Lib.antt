@@ -1,0 +1,4 @@
+pub mod Parity
+pub mod Gather
+pub mod Codeword
+pub mod Cases

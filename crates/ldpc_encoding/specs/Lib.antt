@@ -1,0 +1,5 @@
+pub mod Tables
+pub mod Encoding
+pub mod Calls
+pub mod Bytes
+pub mod Cases
