@@ -7,7 +7,7 @@ use Rattle.staircase.specs.Staircase.{encoded}
 use Rattle.ldpc.specs.Encoding.{encodeBits}
 use Rattle.tanner.specs.Checks.{Word}
 use Rattle.softmath.specs.declared.DecodeRule.{DecodeRule}
-use Rattle.belief.specs.Rounds.{Decode}
+use Rattle.one_round.specs.Round.{Decode}
 use Rattle.decoders.specs.Decodes.{ruleOf, staircaseDecode, ft8Decode}
 -- N, a frame's values, and K, its message bits: defined in crate `batch_refusals` (specs/Codes.antt)
 pub use Rattle.batch_refusals.specs.Codes.{byCode}

@@ -1,15 +1,15 @@
 // The batch: many frames of one code, decoded one after another in one work area.
 use batch_refusals::Room;
-use belief::Decoded;
 use refusal::Status;
+use rounds::Decoded;
 use tanner::FirstCheck;
 ghost use mathlib.Core.Path.{_≡_};
 ghost use Prim.Native.Nat.{_+_, _*_, _≤_, _<_};
 ghost use lib.ListN.{length};
 ghost use Rattle.refusal.specs.Answers.{statusOf};
 ghost use Rattle.tanner.specs.Found.{firstOf};
-ghost use Rattle.belief.specs.Chosen.{Chose};
-ghost use Rattle.belief.specs.Area.{cleared};
+ghost use Rattle.rounds.specs.Told.{Chose};
+ghost use Rattle.work_area.specs.Area.{cleared};
 ghost use Rattle.batch.specs.Codes.{sizeN, sizeK, decodeOf};
 ghost use Rattle.batch.specs.Pairs.{pair, pairsOf, frameOf};
 ghost use Rattle.batch.specs.Calls.{lent, batch, placeOf, written, asStored, Answered};
@@ -129,7 +129,7 @@ fn decode_frames(
         );
         j += 1;
     }
-    belief::clear_area(work);
+    work_area::clear_area(work);
 }
 
 // The batch over flat slices: `pairs` has an offset and a length in turn.

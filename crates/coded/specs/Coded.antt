@@ -6,7 +6,7 @@ use Prim.Native.Nat.{ℕ}
 use lib.IntN.{ℤ, pos, negℤ}
 use Rattle.refusal.specs.Outcome.{Outcome, accepted, refused}
 use Rattle.tanner.specs.Checks.{Syndrome}
-use Rattle.belief.specs.Chosen.{Told}
+use Rattle.rounds.specs.Told.{Told}
 use Rattle.batch.specs.Calls.{placeOf}
 use Rattle.reason.specs.declared.Reason.{Reason}
 use Rattle.reason.specs.declared.Reason.the-variants.{Nan, Check, Checksum, Clean}

@@ -2,8 +2,8 @@
 ghost use mathlib.Core.Path.{_≡_};
 ghost use Rattle.decoders.specs.Decodes.{staircaseRule, ft8Rule, ruleOf};
 ghost use Rattle.decoders.specs.Calls.{decodingOf, Answered, softWith, soft, ft8Soft};
-use belief::Decoded;
 use refusal::Refusal;
+use rounds::Decoded;
 use softmath::DecodeRule;
 
 // The scale of the house default on the staircase codes.
@@ -79,7 +79,7 @@ pub fn decode_soft_with(
     if bits.len() != ldpc_codes::bits_of(code) {
         return Decoding::Refused(Refusal::OutputLength);
     }
-    if work.len() < belief::WORK {
+    if work.len() < work_area::WORK {
         return Decoding::Refused(Refusal::WorkTooShort);
     }
     Decoding::Decoded(belief::decode(code, staircase_rule(rule, scale), limit, llr, bits, work))
@@ -110,7 +110,7 @@ pub fn ldpc_decode_soft(llr: &[f32], limit: u16, plain: &mut [u8], work: &mut [f
     if plain.len() != ldpc::N {
         return Decoding::Refused(Refusal::OutputLength);
     }
-    if work.len() < belief::WORK {
+    if work.len() < work_area::WORK {
         return Decoding::Refused(Refusal::WorkTooShort);
     }
     Decoding::Decoded(belief::decode(3, DecodeRule::Ft8, limit, llr, plain, work))

@@ -8,7 +8,7 @@ use lib.Ieee.{Float}
 use lib.IntN.{ℤ}
 use Rattle.refusal.specs.Outcome.{Outcome, refused, Condition, judged}
 use Rattle.tanner.specs.Checks.{Syndrome}
-use Rattle.belief.specs.Chosen.{Told}
+use Rattle.rounds.specs.Told.{Told}
 use Rattle.decoders.specs.Calls as decoders
 use Rattle.batch.specs.Calls as batch
 use Rattle.reason.specs.declared.Reason.{Reason}

@@ -13,8 +13,9 @@ use Rattle.softmath.specs.declared.DecodeRule.{DecodeRule}
 use Rattle.softmath.specs.declared.DecodeRule.the-variants.{SumProduct, MinSum, ScaledMinSum, Ft8}
 use Rattle.tanner.specs.Checks.{Word, count, firstUnsatisfied, First}
 use Rattle.tanner.specs.Flat.{joined}
-use Rattle.belief.specs.Rounds.{Decode, firstMessages, byCheck, decided, sent, initialWord, unlessDone, chosenFrom}
-use Rattle.belief.specs.Area.{cleared}
+use Rattle.one_round.specs.Round.{Decode, firstMessages, byCheck, decided, sent, initialWord}
+use Rattle.rounds.specs.Rounds.{unlessDone, chosenFrom}
+use Rattle.work_area.specs.Area.{cleared}
 use Rattle.batch.specs.Codes.{sizeK}
 use Rattle.batch.specs.Calls.{Lent, Batch, refusals, frames, frameDecode, placeOf}
 use Rattle.batch_input.specs.Handed.{batchIn, inputRefusals}

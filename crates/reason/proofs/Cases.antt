@@ -11,7 +11,8 @@ use Rattle.ldpc.specs.Code174.{rowsOfSeven, checks}
 use Rattle.ldpc.specs.Encoding.{under, rowsOfTwelve, parityBits, encodeBits}
 use Rattle.softmath.specs.Single.{zero32}
 use Rattle.softmath.specs.Functions.{decide}
-use Rattle.belief.specs.Rounds.{initialWord, roundWords, wordsFrom, chosenFrom, chosen}
+use Rattle.one_round.specs.Round.{initialWord}
+use Rattle.rounds.specs.Rounds.{roundWords, wordsFrom, chosenFrom, chosen}
 use Rattle.batch.specs.Codes.{sizeK, decodeBy}
 use Rattle.clean.specs.Clean.{checksumRight}
 use Rattle.reason.specs.declared.Reason.{Reason}

@@ -14,7 +14,7 @@ use Rattle.tanner.specs.Checks.{Word, First, none, parity, count, firstUnsatisf
 use Rattle.tanner.proofs.First.{first-is, none-count, count-none}
 use Rattle.ldpc.proofs.Tests.{and-left, and-right}
 use Rattle.decoders.specs.Decodes.{ruleOf}
-use Rattle.belief.specs.Rounds.{chosen, chosenCount, chosenBits}
+use Rattle.rounds.specs.Rounds.{chosen, chosenCount, chosenBits}
 use Rattle.batch.specs.Codes.{sizeK, decodeOf}
 use Rattle.clean.specs.Clean.{anyNan, payloadChecksum, carriedChecksum, checksumRight, frameClean}
 use Rattle.clean_frames.specs.Limits.{cleanUnder}

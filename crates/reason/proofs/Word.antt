@@ -11,9 +11,10 @@ use Rattle.tanner.specs.Checks.{Word, Checks, firstUnsatisfied}
 use Rattle.tanner.specs.Found.{firstOf}
 use Rattle.softmath.specs.declared.DecodeRule.{DecodeRule}
 use Rattle.decoders.specs.Decodes.{ruleOf}
-use Rattle.belief.specs.Rounds.{Decode, chosen, chosenFirst, chosenBits}
-use Rattle.belief.specs.Chosen.{Told, Chose}
-use Rattle.belief.specs.declared.Decoded.{Decoded}
+use Rattle.one_round.specs.Round.{Decode}
+use Rattle.rounds.specs.Rounds.{chosen, chosenFirst, chosenBits}
+use Rattle.rounds.specs.Told.{Told, Chose}
+use Rattle.rounds.specs.declared.Decoded.{Decoded}
 use Rattle.batch.specs.Codes.{sizeK, decodeBy, decodeOf}
 use Rattle.batch.proofs.Promise.{chosen-proper, llr-is}
 use Rattle.reason.specs.declared.Reason.the-variants.{Clean}

@@ -9,7 +9,7 @@ use lib.ListN.{take}
 use Rattle.tanner.specs.Checks.{Word, Checks, First, check, none, firstUnsatisfied}
 use Rattle.staircase.specs.Codes as staircase
 use Rattle.ldpc.specs.Code174 as code174
-use Rattle.belief.specs.Rounds.{chosen}
+use Rattle.rounds.specs.Rounds.{chosen}
 use Rattle.batch.specs.Codes.{byCode, sizeK, decodeOf}
 use Rattle.clean.specs.Clean.{payloadChecksum, carriedChecksum, checksumRight}
 use Rattle.reason.specs.declared.Reason.{Reason}

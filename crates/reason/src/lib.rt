@@ -1,13 +1,13 @@
 // Why a frame is open: the first that applies of a NaN among its values, an unsatisfied check and a wrong checksum.
-use belief::WORK;
 use refusal::Refusal;
 use tanner::FirstCheck;
+use work_area::WORK;
 ghost use mathlib.Core.Path.{_≡_};
 ghost use Prim.Native.Nat.{_<_, _≤_};
 ghost use lib.ListN.{length, take};
 ghost use Rattle.tanner.specs.Found.{firstOf};
-ghost use Rattle.belief.specs.Rounds.{chosen};
-ghost use Rattle.belief.specs.Area.{cleared};
+ghost use Rattle.rounds.specs.Rounds.{chosen};
+ghost use Rattle.work_area.specs.Area.{cleared};
 ghost use Rattle.batch.specs.Codes.{sizeN, sizeK, decodeOf};
 ghost use Rattle.reason.specs.Reasons.{firstNan, nanOr, checkOr, checksumOr, reasonUnder};
 ghost use Rattle.reason.specs.Calls.{asked, explainedOf, Answered};
@@ -101,7 +101,7 @@ pub fn find_reason(
     ensures { λ _. ⌜ now (work .exit) ≡ cleared (now (work .entry)) ⌝ }
 {
     let told = batch::decode_frame(code, rule, scale, limit, values, word, work);
-    belief::clear_area(work);
+    work_area::clear_area(work);
     let first = told.first;
     reason_of(code, first, values, word)
 }

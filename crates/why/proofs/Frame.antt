@@ -5,7 +5,7 @@ use mathlib.Core.List.{List, []}
 use Prim.Native.Nat.{ℕ}
 use lib.Ieee.{Float}
 use Rattle.tanner.specs.Checks.{Word, counted}
-use Rattle.belief.specs.Rounds.{chosen}
+use Rattle.rounds.specs.Rounds.{chosen}
 use Rattle.batch.specs.Codes.{decodeOf}
 use Rattle.batch.specs.Pairs.{Pair}
 use Rattle.batch.specs.Calls.{lent, batch}

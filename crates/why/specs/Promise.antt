@@ -7,7 +7,7 @@ use Prim.Native.Nat.{ℕ}
 use lib.Ieee.{Float}
 use Rattle.refusal.specs.Outcome.{accepted, judged}
 use Rattle.tanner.specs.Checks.{Word}
-use Rattle.belief.specs.Rounds.{chosen}
+use Rattle.rounds.specs.Rounds.{chosen}
 use Rattle.batch.specs.Calls.{Batch, frameDecode}
 use Rattle.clean_frames.specs.Limits.{cleanUnder}
 use Rattle.batch_input.specs.Handed.{batchIn}

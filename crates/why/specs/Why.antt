@@ -7,7 +7,7 @@ use lib.Ieee.{Float}
 use lib.ListN.{length, getD, drop}
 use Rattle.refusal.specs.Outcome.{Condition, _when_, judged}
 use Rattle.text.specs.Text.{printed}
-use Rattle.belief.specs.Rounds.{chosen}
+use Rattle.rounds.specs.Rounds.{chosen}
 use Rattle.batch.specs.Calls.{Batch, refusals, frames, frameDecode}
 use Rattle.batch_input.specs.Input.{u16At, pairCount}
 use Rattle.batch_input.specs.Handed.{batchIn, inputRefusals}
