@@ -11,7 +11,7 @@ use Rattle.work_area.specs.Area.{cleared}
 use Rattle.decoders.specs.Calls.{Single}
 use Rattle.batch.specs.Codes.{decodeOf}
 use Rattle.batch.specs.Calls as batch
-use Rattle.reason.specs.Reasons.{reasonUnder}
+use Rattle.reason.specs.Under.{reasonUnder}
 use Rattle.reason.specs.Calls as reason
 use Rattle.groups.specs.Groups.{groupRefusals, overwritten}
 use Rattle.coded.specs.Coded.{codedUnit, Lent, Decodes, Explains}

@@ -19,8 +19,9 @@ use Rattle.batch.specs.Calls.{ruleNotOfCode, pairRefusals, refusalsOf}
 use Rattle.clean.specs.Clean.{checksumRight}
 use Rattle.text.specs.Text.{leading, decimal, hexDigit, field, refusalLine}
 use Rattle.batch_input.specs.Input.{u32sFrom, floatOf, pairNumbers, valuesOf, malformed}
-use Rattle.reason.specs.declared.Reason.the-variants.{Nan, Check, Checksum}
-use Rattle.reason.specs.Reasons.{checksOf, firstNan, checksumOr, reasonFor, reasonUnder}
+use Rattle.first_reason.specs.declared.Reason.the-variants.{Nan, Check, Checksum}
+use Rattle.first_reason.specs.Reasons.{checksOf, firstNan, checksumOr, reasonFor}
+use Rattle.reason.specs.Under.{reasonUnder}
 use Rattle.reason_text.specs.Lines.{nanLine, pairText, entry, entries, checkLine, checksumLine, cleanLine, reasonLine}
 use Rattle.why.specs.Why.{frameLine, whyOf}
 

@@ -11,7 +11,8 @@ use Rattle.rounds.specs.Rounds.{chosen}
 use Rattle.batch.specs.Calls.{Batch, refusals, frames, frameDecode}
 use Rattle.batch_input.specs.Input.{u16At, pairCount}
 use Rattle.batch_input.specs.Handed.{batchIn, inputRefusals}
-use Rattle.reason.specs.Reasons.{checksOf, reasonUnder}
+use Rattle.first_reason.specs.Reasons.{checksOf}
+use Rattle.reason.specs.Under.{reasonUnder}
 use Rattle.reason_text.specs.Lines.{reasonLine}
 
 -- ---- the input

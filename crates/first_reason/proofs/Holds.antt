@@ -1,6 +1,6 @@
 -- The reason that is found holds of the frame, and no earlier one does; it is `Clean` exactly for a frame that is clean by change request N2.
 -- By cases on what each test finds. Assumes nothing.
-use mathlib.Core.Path.{_≡_, refl, sym, _∙_}
+use mathlib.Core.Path.{_≡_, refl, sym}
 use mathlib.Core.Bool.{Bool, true, false, not, cond, _&&_, _||_}
 use mathlib.Core.List.{List, [], _∷_}
 use Prim.Native.Nat.{ℕ, zero, suc, _+_, _<_}
@@ -13,18 +13,14 @@ use lib.ListN.{length, getD, take}
 use Rattle.tanner.specs.Checks.{Word, First, none, parity, count, firstUnsatisfied, FirstIs, counted, satisfied}
 use Rattle.tanner.proofs.First.{first-is, none-count, count-none}
 use Rattle.ldpc.proofs.Tests.{and-left, and-right}
-use Rattle.decoders.specs.Decodes.{ruleOf}
-use Rattle.rounds.specs.Rounds.{chosen, chosenCount, chosenBits}
-use Rattle.batch.specs.Codes.{sizeK, decodeOf}
+use Rattle.batch_refusals.specs.Codes.{sizeK}
 use Rattle.clean.specs.Clean.{anyNan, payloadChecksum, carriedChecksum, checksumRight, frameClean}
-use Rattle.clean_frames.specs.Limits.{cleanUnder}
-use Rattle.reason.specs.declared.Reason.{Reason}
-use Rattle.reason.specs.declared.Reason.the-variants.{Checksum, Clean}
-use Rattle.reason.specs.declared.FirstNan.{FirstNan}
-use Rattle.reason.specs.declared.FirstNan.the-variants.{At, Absent}
-use Rattle.reason.specs.Reasons.{checksOf, firstNan, nanOr, checkOr, checksumOr, reasonFor, reasonUnder}
-use Rattle.reason.specs.Holds.{LowestNan, NoNan, AllSatisfied, IsClean, Holds, byNan, byCheck, byChecksum, isClean, CleanExactly}
-use Rattle.reason.proofs.Word.{checks-are}
+use Rattle.first_reason.specs.declared.Reason.{Reason}
+use Rattle.first_reason.specs.declared.Reason.the-variants.{Checksum, Clean}
+use Rattle.first_reason.specs.declared.FirstNan.{FirstNan}
+use Rattle.first_reason.specs.declared.FirstNan.the-variants.{At, Absent}
+use Rattle.first_reason.specs.Reasons.{checksOf, firstNan, nanOr, checkOr, checksumOr, reasonFor}
+use Rattle.first_reason.specs.Holds.{LowestNan, NoNan, AllSatisfied, IsClean, Holds, byNan, byCheck, byChecksum, isClean}
 
 -- ---- the lowest NaN
 
@@ -129,23 +125,3 @@ module _ (code : ℕ) (values : List Float) (word : Word) where
       let rest = and-right zero (free && sums) h in
       let satisfies = count-none (checksOf code) word (eqb-true _ _ (and-left zero (free && sums) h)) in
       rw (any-absent 0 values (not-true (anyNan values) (and-left free sums rest)), satisfies, and-right free sums rest)
-
--- ---- of a decode under a limit
-
-module _ (code rule : ℕ) (scale : Float) (values : List Float) (limit : ℕ) where
-  abbrev word : Word
-  word = chosen (decodeOf code rule scale values) limit
-
-  -- "the printed reason holds of that frame", and "each earlier one doesn't"
-  pub under-holds : Holds code values word (reasonUnder code rule scale values limit)
-  unfolding reasonUnder
-  under-holds = reason-holds code values word
-
-  same-clean : cleanUnder code rule scale values limit ≡ frameClean code values (count (checksOf code) word) (take (sizeK code) word)
-  unfolding cleanUnder chosenCount chosenBits
-  same-clean = rw (checks-are code (ruleOf code rule scale) values)
-
-  -- "`clean` appears only for a clean frame", and for each
-  pub clean-exactly : CleanExactly code rule scale values limit
-  unfolding reasonUnder
-  clean-exactly = record { only = λ e. same-clean ∙ clean-only code values word e; each = λ h. clean-each code values word (sym same-clean ∙ h) }

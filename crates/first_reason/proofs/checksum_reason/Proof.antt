@@ -1,10 +1,10 @@
--- `reason::checksum_reason` meets its contract: the two checksums are equal, or they are the reason. Assumes nothing.
+-- `first_reason::checksum_reason` meets its contract: the two checksums are equal, or they are the reason. Assumes nothing.
 use borrow.Author.Tests.{eq-eqb, ne-eqb}
 use Rattle.clean.specs.Clean.{checksumRight}
-use Rattle.reason.specs.Reasons.{checksumOr}
+use Rattle.first_reason.specs.Reasons.{checksumOr}
 use borrow.Author.Needs.{needs}
-use Rattle.reason.proofs.checksum_reason.Statement.{statement}
-use Rattle.reason.proofs.checksum_reason.Tie as tie
+use Rattle.first_reason.proofs.checksum_reason.Statement.{statement}
+use Rattle.first_reason.proofs.checksum_reason.Tie as tie
 
 both-checksums-requires : tie.Need-both-checksums-requires
 both-checksums-requires c κs = search needs

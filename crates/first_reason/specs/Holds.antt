@@ -7,12 +7,11 @@ use Prim.Native.Nat.{ℕ, _<_}
 use lib.Ieee.{Float, isNan, nan}
 use lib.ListN.{length, getD, take}
 use Rattle.tanner.specs.Checks.{Word, check, none, parity, count, FirstIs}
-use Rattle.batch.specs.Codes.{sizeK}
+use Rattle.batch_refusals.specs.Codes.{sizeK}
 use Rattle.clean.specs.Clean.{payloadChecksum, carriedChecksum, frameClean}
-use Rattle.clean_frames.specs.Limits.{cleanUnder}
-use Rattle.reason.specs.declared.Reason.{Reason}
-use Rattle.reason.specs.declared.Reason.the-variants as reason
-use Rattle.reason.specs.Reasons.{checksOf, reasonUnder}
+use Rattle.first_reason.specs.declared.Reason.{Reason}
+use Rattle.first_reason.specs.declared.Reason.the-variants as reason
+use Rattle.first_reason.specs.Reasons.{checksOf}
 
 -- "`nan` and the lowest such position within the frame"
 pub record LowestNan (values : List Float) (p : ℕ) : Type 0 where
@@ -42,8 +41,3 @@ pub data Holds (code : ℕ) (values : List Float) (word : Word) : Reason → Typ
       → carried ≡ carriedChecksum (take (sizeK code) word) → computed ≡ payloadChecksum (take (sizeK code) word) → (carried ≡ computed → ⊥)
       → Holds code values word (reason.Checksum carried computed)
   isClean : IsClean code values word → Holds code values word reason.Clean
-
--- "`clean` appears only for a clean frame", and for each
-pub record CleanExactly (code rule : ℕ) (scale : Float) (values : List Float) (limit : ℕ) : Type 0 where
-  pub only : reasonUnder code rule scale values limit ≡ reason.Clean → cleanUnder code rule scale values limit ≡ true
-  pub each : cleanUnder code rule scale values limit ≡ true → reasonUnder code rule scale values limit ≡ reason.Clean

@@ -1,12 +1,12 @@
--- `reason::first_nan` meets its contract. The invariant: the first NaN of the values that are left is the answer. Assumes nothing.
+-- `first_reason::first_nan` meets its contract. The invariant: the first NaN of the values that are left is the answer. Assumes nothing.
 use mathlib.Core.Path.{_≡_, refl, sym, _∙_}
 use Prim.Native.Nat.{_-_, _≤_}
 use lib.ListN.{length, drop}
-use Rattle.reason.specs.Reasons.{firstNan}
-use Rattle.reason.proofs.Steps.{nan-here, nan-later, nan-nowhere}
+use Rattle.first_reason.specs.Reasons.{firstNan}
+use Rattle.first_reason.proofs.Steps.{nan-here, nan-later, nan-nowhere}
 use borrow.Author.Needs.{needs}
-use Rattle.reason.proofs.first_nan.Statement.{statement}
-use Rattle.reason.proofs.first_nan.Tie as tie
+use Rattle.first_reason.proofs.first_nan.Statement.{statement}
+use Rattle.first_reason.proofs.first_nan.Tie as tie
 
 abbrev Inv-loop : tie.InvT-loop
 Inv-loop values i₀ i = (i ≤ length values) × (firstNan i (drop i values) ≡ firstNan 0 values)

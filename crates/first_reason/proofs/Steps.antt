@@ -10,8 +10,8 @@ use lib.Ieee.{Float, nan}
 use lib.ListN.{length, getD, drop}
 use lib.Seq.{drop-cons, drop-length}
 use Rattle.clean.proofs.Steps.{differs, same}
-use Rattle.reason.specs.declared.FirstNan.the-variants.{At, Absent}
-use Rattle.reason.specs.Reasons.{firstNan}
+use Rattle.first_reason.specs.declared.FirstNan.the-variants.{At, Absent}
+use Rattle.first_reason.specs.Reasons.{firstNan}
 
 module _ (vs : List Float) (i : ℕ) (h : i < length vs) where
   pub nan-here : Ieee.ne (getD vs i nan) (getD vs i nan) ≡ true → At i ≡ firstNan i (drop i vs)

@@ -1,4 +1,4 @@
--- `reason::reason_of` meets its contract: each reason by its test, the earlier ones passed over. Assumes nothing.
+-- `first_reason::reason_of` meets its contract: each reason by its test, the earlier ones passed over. Assumes nothing.
 use mathlib.Core.Path.{_≡_, sym, ap, _∙_}
 use mathlib.Core.List.{List}
 use Prim.Native.Nat.{ℕ}
@@ -7,12 +7,12 @@ use lib.ListN.{length, take}
 use lib.Seq.{length-take-le}
 use Rattle.tanner.specs.Checks.{none}
 use Rattle.tanner.specs.Found.{firstOf}
-use Rattle.batch.specs.Codes.{sizeK}
-use Rattle.reason.specs.Reasons.{firstNan, checksumOr}
-use Rattle.reason.specs.declared.FirstNan.the-variants.{Absent}
+use Rattle.batch_refusals.specs.Codes.{sizeK}
+use Rattle.first_reason.specs.Reasons.{firstNan, checksumOr}
+use Rattle.first_reason.specs.declared.FirstNan.the-variants.{Absent}
 use borrow.Author.Needs.{needs}
-use Rattle.reason.proofs.reason_of.Statement.{statement}
-use Rattle.reason.proofs.reason_of.Tie as tie
+use Rattle.first_reason.proofs.reason_of.Statement.{statement}
+use Rattle.first_reason.proofs.reason_of.Tie as tie
 
 -- ---- places of the walk
 

@@ -9,13 +9,12 @@ use lib.ListN.{take}
 use Rattle.tanner.specs.Checks.{Word, Checks, First, check, none, firstUnsatisfied}
 use Rattle.staircase.specs.Codes as staircase
 use Rattle.ldpc.specs.Code174 as code174
-use Rattle.rounds.specs.Rounds.{chosen}
-use Rattle.batch.specs.Codes.{byCode, sizeK, decodeOf}
+use Rattle.batch_refusals.specs.Codes.{byCode, sizeK}
 use Rattle.clean.specs.Clean.{payloadChecksum, carriedChecksum, checksumRight}
-use Rattle.reason.specs.declared.Reason.{Reason}
-use Rattle.reason.specs.declared.Reason.the-variants.{Nan, Check, Checksum, Clean}
-use Rattle.reason.specs.declared.FirstNan.{FirstNan}
-use Rattle.reason.specs.declared.FirstNan.the-variants.{At, Absent}
+use Rattle.first_reason.specs.declared.Reason.{Reason}
+use Rattle.first_reason.specs.declared.Reason.the-variants.{Nan, Check, Checksum, Clean}
+use Rattle.first_reason.specs.declared.FirstNan.{FirstNan}
+use Rattle.first_reason.specs.declared.FirstNan.the-variants.{At, Absent}
 
 -- the checks of the code with that number
 unfoldable pub checksOf : ℕ → Checks
@@ -44,7 +43,3 @@ checksumOr code bits r = cond (not (eqb code 3) || checksumRight bits) r (Checks
 unfoldable pub reasonFor : ℕ → List Float → Word → Reason
 reasonFor code values word =
     nanOr (firstNan 0 values) (checkOr (firstUnsatisfied (checksOf code) word) (checksumOr code (take (sizeK code) word) Clean))
-
--- of a frame's values and the word that its decode chooses under a limit
-unfoldable pub reasonUnder : ℕ → ℕ → Float → List Float → ℕ → Reason
-reasonUnder code rule scale values limit = reasonFor code values (chosen (decodeOf code rule scale values) limit)
