@@ -1,3 +1,3 @@
 pub mod Words
+pub mod Whole
 pub mod RoundsRun
-pub mod Initial

@@ -1,13 +1,11 @@
-// The rounds of a decode, one after the other to the first word of count 0 or to the limit; none where the initial word satisfies every check.
+// The rounds of a decode, one after the other, to the first word of count 0 or to the limit.
 ghost use mathlib.Core.Path.{_≡_};
 ghost use mathlib.Core.List.{List};
 ghost use Prim.Native.Nat.{_<_, _≤_};
 ghost use lib.Ieee.{Float};
 ghost use lib.ListN.{length};
 ghost use Rattle.passes.specs.Codes.{sizeN, checksBy, room};
-ghost use Rattle.one_round.specs.Round.{initialWord};
 ghost use Rattle.one_round.specs.Held.{decodeAt, HeldBy};
-ghost use Rattle.rounds.specs.Told.{Chose};
 ghost use Rattle.rounds.specs.Run.{Kept, Ran};
 use softmath::DecodeRule;
 use tanner::Counted;
@@ -21,7 +19,7 @@ pub struct Decoded {
 }
 
 // The rounds: left by `break` at the first word whose count is 0. `bits` keeps the front of the best word so far, and `first` is what was counted of it.
-fn rounds(
+pub fn rounds(
     code: u32,
     rule: DecodeRule,
     limit: u16,
@@ -63,34 +61,4 @@ fn rounds(
         rounds: done,
         first: lowest,
     }
-}
-
-// The rounds, unless the initial word, which `hard` and `bits` hold, satisfies every check.
-pub fn improve(
-    code: u32,
-    rule: DecodeRule,
-    limit: u16,
-    llr: &[f32],
-    first: Counted,
-    messages: &mut [f32],
-    hard: &mut [u8],
-    bits: &mut [u8],
-) -> Decoded
-    requires { ⌜ code < 4 ⌝ }
-    requires { ⌜ length (now llr) ≡ sizeN code ⌝ }
-    requires { ⌜ length (now messages) ≡ room code ⌝ }
-    requires { ⌜ now hard ≡ initialWord (decodeAt code rule (now llr)) ⌝ }
-    requires { ⌜ length (now bits) ≤ sizeN code ⌝ }
-    requires { ⌜ Kept (checksBy code) (length (now bits)) (now hard) (now bits) first ⌝ }
-    ensures { λ r. ⌜ Chose (decodeAt code rule (now (llr .entry))) limit (length (now (bits .entry))) r (now (bits .exit)) ⌝ }
-{
-    if first.count == 0 {
-        return Decoded {
-            count: 0,
-            rounds: 0,
-            first: FirstCheck::Satisfied,
-        };
-    }
-    passes::first_messages(code, llr, messages);
-    rounds(code, rule, limit, llr, first, messages, hard, bits)
 }

@@ -1,7 +1,7 @@
 -- `belief::choose` meets its contract: the initial word, its count and its front, and then the rounds. Assumes nothing.
 use mathlib.Core.Path.{sym, _∙_}
 use native.Mathlib.Omega.{arith}
-use Rattle.belief.proofs.Initial.{initial-is, initial-kept}
+use Rattle.belief.proofs.Whole.{initial-is, initial-kept}
 use borrow.Author.Needs.{needs}
 use borrow.Author.Needs.{needs}
 use Rattle.belief.proofs.choose.Statement.{statement}

@@ -1,24 +1,42 @@
--- The decode put together: no round where the initial word satisfies every check, and else the rounds. Assumes nothing.
-use mathlib.Core.Path.{_≡_, refl, sym, ap, ap₂, _∙_}
-use mathlib.Core.List.{List}
+-- The decode put together: the initial word with its count and front, and the rounds where it does not satisfy every check. Assumes nothing.
+use mathlib.Core.Path.{_≡_, refl, sym, ap, ap₂, subst, _∙_}
+use mathlib.Core.List.{List, map}
 use Prim.Native.Nat.{ℕ}
 use lib.Ieee.{Float}
+use lib.ListN.{take}
+use Rattle.softmath.specs.Functions.{decide}
 use Rattle.softmath.specs.declared.DecodeRule.{DecodeRule}
 use Rattle.tanner.specs.Checks.{Word, count, Syndrome}
+use Rattle.tanner.specs.Masked.{syndromeMasked}
+use Rattle.tanner.specs.Found.{syndromeOf}
 use Rattle.tanner.specs.declared.Counted.{Counted}
 use Rattle.tanner.specs.declared.FirstCheck.the-variants.{Satisfied}
+use Rattle.tanner.specs.Flat.{Below}
 use Rattle.tanner.proofs.First.{both, count-none}
 use Rattle.passes.specs.Codes.{checksBy}
 use Rattle.one_round.specs.Round.{Decode, initialWord, firstMessages}
-use Rattle.rounds.specs.Told.{Chose}
-use Rattle.rounds.specs.declared.Decoded.{Decoded}
-use Rattle.rounds.specs.Run.{Kept, Ran}
 use Rattle.one_round.specs.Held.{HeldBy, decodeAt}
+use Rattle.one_round.proofs.BitWords.{initial-bits, masked-word}
+use Rattle.rounds.specs.Told.{Chose}
+use Rattle.rounds.specs.Run.{Kept, Ran}
+use Rattle.rounds.specs.declared.Decoded.{Decoded}
 use Rattle.rounds.proofs.Loop.{none-run, some-run}
 
 module _ (code : ℕ) (rule : DecodeRule) (llr : List Float) where
   abbrev d : Decode
   d = decodeAt code rule llr
+
+  pub initial-is : (hard : Word) → hard ≡ map decide llr → hard ≡ initialWord d
+  unfolding initialWord
+  initial-is hard e = e
+
+  pub initial-kept : (hard : Word) (bits : List ℕ) (k n : ℕ) (found : Counted)
+      → hard ≡ map decide llr → syndromeOf found ≡ syndromeMasked 1 (checksBy code) hard → bits ≡ take n hard → n ≡ k
+      → Kept (checksBy code) k hard bits found
+  initial-kept hard bits k n found h c b e = record {
+    front = rw e at b;
+    counted = c ∙ masked-word (checksBy code) hard (subst (λ (w : Word). Below 2 w) (sym (initial-is hard h)) (initial-bits d));
+  }
 
   module _ (k limit : ℕ) (hard : Word) (e : hard ≡ initialWord d) where
     pub run-none : (bits : List ℕ) (first : Counted) → first .count ≡ 0 → Kept (checksBy code) k hard bits first

@@ -1,13 +1,13 @@
--- `rounds::improve` meets its contract: no round where the initial word satisfies every check, else the rounds from the first messages. Assumes nothing.
+-- `belief::improve` meets its contract: no round where the initial word satisfies every check, else the rounds from the first messages. Assumes nothing.
 use mathlib.Core.Path.{ap, _∙_}
 use lib.ListN.{length}
 use Rattle.one_round.proofs.BitWords.{initial-length}
 use Rattle.one_round.proofs.RoundHeld.{first-held}
-use Rattle.rounds.proofs.Whole.{run-none, run-some}
+use Rattle.belief.proofs.Whole.{run-none, run-some}
 use borrow.Author.Needs.{needs}
 use borrow.Author.Needs.{needs}
-use Rattle.rounds.proofs.improve.Statement.{statement}
-use Rattle.rounds.proofs.improve.Tie as tie
+use Rattle.belief.proofs.improve.Statement.{statement}
+use Rattle.belief.proofs.improve.Tie as tie
 
 -- the entry, from where the initial word's count is known
 abbrev entry : tie.After-struct-known → tie.Start
