@@ -1,5 +1,5 @@
 -- A decode, a batch and a listing whose checks answer by a given engine (change request N9). With the engine of document 01 they are the decode of
--- `belief`, the batch of `batch` and the listing of `listing` (`Same.antt`).
+-- `rounds`, the batch of `batch` and the listing of `listing` (`Same.antt`).
 use mathlib.Core.Path.{_≡_}
 use mathlib.Core.List.{List, [], _∷_, map}
 use Prim.Native.Nat.{ℕ, zero, suc}

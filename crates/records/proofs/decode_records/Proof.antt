@@ -255,4 +255,4 @@ decode-records-spec 𝓤 H 𝓜 𝓖 𝓡 =
     (cited 𝓤 H (Callee 𝓤 H (𝓖 .A) place.ended (place.clauses 𝓤 H (𝓖 .A) (𝓜 .mem) (𝓡 .run))) 𝓜 𝓡 code-of.env #records·decode-record place-def.routine
     code-of.calls-records·decode-record (place-thm.met 𝓤 H 𝓜 𝓖 𝓡))
     (cited 𝓤 H (Callee 𝓤 H (𝓖 .A) clear.ended (clear.clauses 𝓤 H (𝓖 .A) (𝓜 .mem) (𝓡 .run))) 𝓜 𝓡 code-of.env #work-area·clear-area clear-def.routine
-    code-of.calls-belief·clear-area (clear-thm.met 𝓤 H 𝓜 𝓖 𝓡)))
+    code-of.calls-work-area·clear-area (clear-thm.met 𝓤 H 𝓜 𝓖 𝓡)))
