@@ -1,4 +1,4 @@
--- `clear_area` meets its contract: its first 3,070 places go to `clear`. Assumes nothing.
+-- `work_area::clear_area` meets its contract: its first 3,070 places go to `clear`. Assumes nothing.
 use mathlib.Core.Path.{sym}
 use lib.Seq.{length-take-le}
 use Rattle.work_area.proofs.Area.{front-cleared}
