@@ -10,13 +10,13 @@ use lib.ListN.{length, getD, take, drop, set, length-set, length-append, length-
 use lib.Seq.{take-at, drop-drop, drop-cons, take-all, length-take-le}
 use Rattle.softmath.specs.declared.DecodeRule.{DecodeRule}
 use Rattle.tanner.specs.Flat.{joined}
-use Rattle.belief.specs.Chosen.{Chose}
-use Rattle.belief.specs.Area.{cleared}
-use Rattle.belief.specs.Run.{decodeAt}
-use Rattle.belief.proofs.Fill.{fill-more, fill-done}
+use Rattle.rounds.specs.Told.{Chose}
+use Rattle.work_area.specs.Area.{cleared}
+use Rattle.one_round.specs.Held.{decodeAt}
+use Rattle.work_area.proofs.Fill.{fill-more, fill-done}
 use Rattle.passes.specs.Codes.{checksBy, kindBy}
 use Rattle.rules.specs.Rules.{ruleOf}
-use Rattle.belief.specs.declared.Decoded.{Decoded}
+use Rattle.rounds.specs.declared.Decoded.{Decoded}
 use Rattle.batch.specs.Codes.{sizeN, sizeK, decodeBy, decodeOf}
 use Rattle.batch.specs.Pairs.{Pair, pair, pairsOf, frameOf, framesOf, AllWithin}
 use Rattle.batch.specs.Calls.{Lent, lent, Batch, frames, frameDecode, frameBits, frameCount, frameRounds, frameFirst, written}

@@ -22,25 +22,9 @@ use Rattle.codewords.proofs.PackedWords.{codewords}
 use Rattle.refusal.specs.Outcome.{Outcome}
 use Rattle.refusal.proofs.Judged.{verdict, nothing}
 use Rattle.softmath.specs.declared.DecodeRule.{DecodeRule}
-use Rattle.belief.specs.Rounds.{
-  Decode,
-  answers,
-  decidedFrom,
-  decided,
-  sent,
-  initialWord,
-  firstMessages,
-  wordsFrom,
-  roundWords,
-  better,
-  chosenFrom,
-  chosen,
-  chosenCount,
-  chosenFirst,
-  chosenBits,
-  roundsRun,
-}
-use Rattle.belief.proofs.BitWords.{initial-bits, initial-length, word-bits}
+use Rattle.one_round.specs.Round.{Decode, answers, decidedFrom, decided, sent, initialWord, firstMessages}
+use Rattle.rounds.specs.Rounds.{wordsFrom, roundWords, better, chosenFrom, chosen, chosenCount, chosenFirst, chosenBits, roundsRun}
+use Rattle.one_round.proofs.BitWords.{initial-bits, initial-length, word-bits}
 use Rattle.belief.proofs.Words.{chosen-first, count-falls, same-chosen}
 use Rattle.belief.proofs.RoundsRun.{rounds-lesser, rounds-within}
 use Rattle.batch.specs.Codes.{sizeN, sizeK, decodeBy, encodingBy}

@@ -20,7 +20,8 @@ use Rattle.ldpc_encoding.specs.Encoding.{encodeBits}
 use Rattle.codewords.proofs.PackedWords.{codewords, encoding-length, encoding-front}
 use Rattle.softmath.specs.Functions.{decide}
 use Rattle.softmath.specs.declared.DecodeRule.{DecodeRule}
-use Rattle.belief.specs.Rounds.{Decode, initialWord, roundWords, chosenFrom, chosen, chosenCount, chosenFirst, chosenBits, roundsRun}
+use Rattle.one_round.specs.Round.{Decode, initialWord}
+use Rattle.rounds.specs.Rounds.{roundWords, chosenFrom, chosen, chosenCount, chosenFirst, chosenBits, roundsRun}
 use Rattle.batch.specs.Codes.{sizeK, decodeBy, encodingBy}
 use Rattle.batch.specs.RoundTrip.{Sent, Returned}
 

@@ -7,8 +7,9 @@ use lib.ListN.{length}
 use Rattle.refusal.specs.Outcome.{Outcome, Condition, judged, kept}
 use Rattle.check_places.specs.Places.{placeOf}
 use Rattle.tanner.specs.Flat.{joined}
-use Rattle.belief.specs.Rounds.{Decode, roundsRun, chosenCount, chosenFirst, chosenBits}
-use Rattle.belief.specs.Area.{cleared}
+use Rattle.one_round.specs.Round.{Decode}
+use Rattle.rounds.specs.Rounds.{roundsRun, chosenCount, chosenFirst, chosenBits}
+use Rattle.work_area.specs.Area.{cleared}
 use Rattle.batch.specs.Codes.{sizeK, decodeOf}
 use Rattle.batch.specs.Pairs.{Pair, framesOf}
 use Rattle.batch_refusals.specs.declared.Room.{Room}

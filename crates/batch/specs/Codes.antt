@@ -7,7 +7,7 @@ use Rattle.staircase.specs.Staircase.{encoded}
 use Rattle.ldpc_encoding.specs.Encoding.{encodeBits}
 use Rattle.tanner.specs.Checks.{Word}
 use Rattle.softmath.specs.declared.DecodeRule.{DecodeRule}
-use Rattle.belief.specs.Rounds.{Decode}
+use Rattle.one_round.specs.Round.{Decode}
 use Rattle.rules.specs.Rules.{ruleOf}
 use Rattle.decoders.specs.Decodes.{staircaseDecode, ft8Decode}
 -- N, a frame's values, and K, its message bits: defined in crate `batch_refusals` (specs/Codes.antt)

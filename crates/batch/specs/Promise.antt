@@ -10,7 +10,7 @@ use Rattle.rules.specs.Rules.{ruleOf}
 use lib.ListN.{length, getD, take, drop}
 use Rattle.refusal.specs.Outcome.{Outcome, accepted}
 use Rattle.tanner.specs.Checks.{Word, count, firstUnsatisfied}
-use Rattle.belief.specs.Rounds.{Decode}
+use Rattle.one_round.specs.Round.{Decode}
 use Rattle.belief.specs.Chosen.{words, FirstLeast}
 use Rattle.batch.specs.Codes.{sizeK, encodingBy}
 use Rattle.batch.specs.Calls.{Lent, Batch, frames, frameDecode, Answered}

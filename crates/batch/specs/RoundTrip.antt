@@ -7,7 +7,8 @@ use lib.ListN.{length}
 use Rattle.tanner.specs.Checks.{none}
 use Rattle.tanner.specs.Flat.{Below}
 use Rattle.softmath.specs.Functions.{decide}
-use Rattle.belief.specs.Rounds.{Decode, roundsRun, chosenCount, chosenFirst, chosenBits}
+use Rattle.one_round.specs.Round.{Decode}
+use Rattle.rounds.specs.Rounds.{roundsRun, chosenCount, chosenFirst, chosenBits}
 use Rattle.batch.specs.Codes.{sizeK, encodingBy}
 
 -- a message of K bits, and values of which every one decides the bit of its encoding

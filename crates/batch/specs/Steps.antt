@@ -5,8 +5,9 @@ use mathlib.Core.List.{List, _++_}
 use Prim.Native.Nat.{ℕ, _+_, _*_, _<_, _≤_}
 use lib.Ieee.{Float}
 use lib.ListN.{length, take, drop, set}
-use Rattle.belief.specs.Rounds.{Decode, roundsRun, chosenCount, chosenFirst, chosenBits}
-use Rattle.belief.specs.Area.{cleared}
+use Rattle.one_round.specs.Round.{Decode}
+use Rattle.rounds.specs.Rounds.{roundsRun, chosenCount, chosenFirst, chosenBits}
+use Rattle.work_area.specs.Area.{cleared}
 use Rattle.batch.specs.Codes.{sizeN, sizeK}
 use Rattle.batch.specs.Pairs.{AllWithin}
 use Rattle.batch.specs.Calls.{Lent, Batch}

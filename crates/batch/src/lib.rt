@@ -1,13 +1,13 @@
 // The batch: many frames of one code, decoded one after another in one work area.
 use batch_refusals::Room;
-use belief::Decoded;
 use refusal::Status;
+use rounds::Decoded;
 ghost use mathlib.Core.Path.{_≡_};
 ghost use Prim.Native.Nat.{_+_, _*_, _≤_, _<_};
 ghost use lib.ListN.{length};
 ghost use Rattle.refusal.specs.Answers.{statusOf};
-ghost use Rattle.belief.specs.Chosen.{Chose};
-ghost use Rattle.belief.specs.Area.{cleared};
+ghost use Rattle.rounds.specs.Told.{Chose};
+ghost use Rattle.work_area.specs.Area.{cleared};
 ghost use Rattle.rules.specs.Rules.{asStored};
 ghost use Rattle.batch.specs.Codes.{sizeN, sizeK, decodeOf};
 ghost use Rattle.batch.specs.Pairs.{pair, pairsOf, frameOf};
@@ -115,7 +115,7 @@ fn decode_frames(
         );
         j += 1;
     }
-    belief::clear_area(work);
+    work_area::clear_area(work);
 }
 
 // The batch over flat slices: `pairs` has an offset and a length in turn.

@@ -1,9 +1,9 @@
 // Reception figures of batches: what a batch's call left, added to a total.
 use batch_refusals::Room;
-use belief::WORK;
 use figures::Summed;
 use figures::Totals;
 use refusal::Status;
+use work_area::WORK;
 ghost use mathlib.Core.Path.{_≡_};
 ghost use Prim.Native.Nat.{_*_, _≤_};
 ghost use lib.ListN.{length};

@@ -1,7 +1,7 @@
 // What a batch is refused for: the numbers and the lengths, then the pairs, one after another; and the sizes by which they are measured.
-use belief::WORK;
 use refusal::Refusal;
 use refusal::Status;
+use work_area::WORK;
 ghost use mathlib.Core.Path.{_≡_};
 ghost use Prim.Native.Nat.{_<_};
 ghost use Rattle.refusal.specs.Outcome.{judged};

@@ -1,12 +1,3 @@
 pub mod Words
-pub mod Area
-pub mod Fill
-pub mod BitWords
-pub mod Held
-pub mod Answers
-pub mod First
-pub mod Bits
-pub mod RoundHeld
-pub mod Loop
 pub mod Whole
 pub mod RoundsRun

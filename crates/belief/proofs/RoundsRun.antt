@@ -10,7 +10,8 @@ use lib.Dec.{eqb}
 use lib.Ieee.{Float}
 use lib.ListN.{length}
 use Rattle.tanner.specs.Checks.{Word, Checks, count}
-use Rattle.belief.specs.Rounds.{Decode, answers, decided, sent, initialWord, firstMessages, wordsFrom, roundWords, roundsRun}
+use Rattle.one_round.specs.Round.{Decode, answers, decided, sent, initialWord, firstMessages}
+use Rattle.rounds.specs.Rounds.{wordsFrom, roundWords, roundsRun}
 use Rattle.belief.specs.Chosen.{wordAt}
 use Rattle.belief.specs.RoundsRun.{StoppedAt, reached, passed, RoundsAre, none, some}
 

@@ -14,12 +14,13 @@ use Rattle.tanner.specs.declared.FirstCheck.the-variants.{Satisfied}
 use Rattle.tanner.specs.Flat.{Below}
 use Rattle.tanner.proofs.First.{both, count-none}
 use Rattle.passes.specs.Codes.{checksBy}
-use Rattle.belief.specs.Rounds.{Decode, initialWord, firstMessages}
-use Rattle.belief.specs.Chosen.{Chose}
-use Rattle.belief.specs.declared.Decoded.{Decoded}
-use Rattle.belief.specs.Run.{Kept, Ran, HeldBy, decodeAt}
-use Rattle.belief.proofs.BitWords.{initial-bits, masked-word}
-use Rattle.belief.proofs.Loop.{none-run, some-run}
+use Rattle.one_round.specs.Round.{Decode, initialWord, firstMessages}
+use Rattle.one_round.specs.Held.{HeldBy, decodeAt}
+use Rattle.one_round.proofs.BitWords.{initial-bits, masked-word}
+use Rattle.rounds.specs.Told.{Chose}
+use Rattle.rounds.specs.Run.{Kept, Ran}
+use Rattle.rounds.specs.declared.Decoded.{Decoded}
+use Rattle.rounds.proofs.Loop.{none-run, some-run}
 
 module _ (code : ℕ) (rule : DecodeRule) (llr : List Float) where
   abbrev d : Decode

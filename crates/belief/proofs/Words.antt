@@ -11,8 +11,10 @@ use lib.Dec.{eqb, ltb}
 use lib.Ieee.{Float}
 use lib.ListN.{length}
 use Rattle.tanner.specs.Checks.{Word, Checks, count}
-use Rattle.belief.specs.Rounds.{Decode, answers, decided, sent, wordsFrom, roundWords}
-use Rattle.belief.specs.Rounds.{firstMessages, initialWord, better, chosenFrom, chosen, chosenCount}
+use Rattle.one_round.specs.Round.{Decode, answers, decided, sent}
+use Rattle.rounds.specs.Rounds.{wordsFrom, roundWords}
+use Rattle.one_round.specs.Round.{firstMessages, initialWord}
+use Rattle.rounds.specs.Rounds.{better, chosenFrom, chosen, chosenCount}
 use Rattle.belief.specs.Chosen.{words, wordAt, FirstLeast}
 
 -- ---- a larger limit only adds words

@@ -1,5 +1,2 @@
-pub mod Rounds
-pub mod RoundsRun
 pub mod Chosen
-pub mod Area
-pub mod Run
+pub mod RoundsRun

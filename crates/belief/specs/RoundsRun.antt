@@ -4,7 +4,8 @@ use mathlib.Core.Path.{_≡_}
 use mathlib.Core.List.{List}
 use Prim.Native.Nat.{ℕ, suc, _<_}
 use Rattle.tanner.specs.Checks.{Word, Checks, count}
-use Rattle.belief.specs.Rounds.{Decode, initialWord, roundWords}
+use Rattle.one_round.specs.Round.{Decode, initialWord}
+use Rattle.rounds.specs.Rounds.{roundWords}
 use Rattle.belief.specs.Chosen.{wordAt}
 
 -- of a list of words, of which the word at place j is that of round j + 1

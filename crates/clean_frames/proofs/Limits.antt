@@ -10,7 +10,7 @@ use lib.Dec.{eqb}
 use lib.Ieee.{Float}
 use lib.ListN.{take}
 use Rattle.ldpc.proofs.Tests.{and-left}
-use Rattle.belief.specs.Rounds.{chosenCount, chosenBits}
+use Rattle.rounds.specs.Rounds.{chosenCount, chosenBits}
 use Rattle.belief.proofs.Words.{count-falls, same-chosen}
 use Rattle.batch.specs.Codes.{sizeK, decodeOf}
 use Rattle.batch.specs.Promise.{Call, valuesAt, countAt, bitsAt, SameFrame}

@@ -4,7 +4,7 @@ use mathlib.Core.Bool.{Bool, true}
 use Prim.Native.Nat.{ℕ, _≤_}
 use mathlib.Core.List.{List}
 use lib.Ieee.{Float}
-use Rattle.belief.specs.Rounds.{chosenCount, chosenBits}
+use Rattle.rounds.specs.Rounds.{chosenCount, chosenBits}
 use Rattle.batch.specs.Codes.{sizeK, decodeOf}
 use Rattle.batch.specs.Promise.{Call, valuesAt, countAt, bitsAt, SameFrame}
 use Rattle.clean.specs.Clean.{frameClean}

@@ -6,10 +6,10 @@ use Prim.Native.Nat.{ℕ}
 use lib.IntN.{ℤ, pos, negℤ}
 use Rattle.refusal.specs.Outcome.{Outcome, accepted, refused}
 use Rattle.tanner.specs.Checks.{Syndrome}
-use Rattle.belief.specs.Chosen.{Told}
+use Rattle.rounds.specs.Told.{Told}
 use Rattle.check_places.specs.Places.{placeOf}
-use Rattle.reason.specs.declared.Reason.{Reason}
-use Rattle.reason.specs.declared.Reason.the-variants.{Nan, Check, Checksum, Clean}
+use Rattle.first_reason.specs.declared.Reason.{Reason}
+use Rattle.first_reason.specs.declared.Reason.the-variants.{Nan, Check, Checksum, Clean}
 use Rattle.cycles.specs.Calls.{Report}
 
 -- the signed number, of an accepted call the part `of` its value

@@ -1,7 +1,7 @@
 // The batch of a program's input, decoded into lent arrays.
-use belief::WORK;
 use refusal::Refusal;
 use refusal::Status;
+use work_area::WORK;
 ghost use mathlib.Core.Path.{_≡_};
 ghost use mathlib.Core.Bool.{false};
 ghost use Prim.Native.Nat.{_≤_};

@@ -11,11 +11,11 @@ use Rattle.refusal.proofs.Judged.{verdict, nothing, judged-accepted, judged-ref
 use Rattle.construction.specs.Codes.{blockLength}
 use Rattle.staircase.specs.Codes.{codeOf}
 use Rattle.softmath.specs.declared.DecodeRule.{DecodeRule}
-use Rattle.belief.specs.Chosen.{Chose, toldBy}
-use Rattle.belief.specs.Area.{cleared}
-use Rattle.belief.specs.Run.{decodeAt}
+use Rattle.rounds.specs.Told.{Chose, toldBy}
+use Rattle.work_area.specs.Area.{cleared}
+use Rattle.one_round.specs.Held.{decodeAt}
 use Rattle.passes.specs.Codes.{sizeN, checksBy, kindBy}
-use Rattle.belief.specs.declared.Decoded.{Decoded}
+use Rattle.rounds.specs.declared.Decoded.{Decoded}
 use Rattle.decoders.specs.Decodes.{staircaseDecode, ft8Decode}
 use Rattle.decoders.specs.Calls.{Single, Answered, softWithRefusals, frameRefusals}
 

@@ -11,9 +11,10 @@ use Rattle.refusal.specs.Numbers.{numberOf}
 use Rattle.softmath.specs.declared.DecodeRule.the-variants.{SumProduct, Ft8}
 use Rattle.construction.specs.Codes.{blockLength}
 use Rattle.staircase.specs.Codes.{codeOf}
-use Rattle.belief.specs.Rounds.{Decode, chosenBits}
-use Rattle.belief.specs.Chosen.{Told, told, toldBy}
-use Rattle.belief.specs.Area.{cleared}
+use Rattle.one_round.specs.Round.{Decode}
+use Rattle.rounds.specs.Rounds.{chosenBits}
+use Rattle.rounds.specs.Told.{Told, told, toldBy}
+use Rattle.work_area.specs.Area.{cleared}
 use Rattle.rules.specs.Rules.{staircaseRule}
 use Rattle.decoders.specs.Decodes.{staircaseDecode, ft8Decode}
 use Rattle.decoders.specs.declared.Decoding.{Decoding}

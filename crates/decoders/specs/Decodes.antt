@@ -6,7 +6,7 @@ use Rattle.softmath.specs.declared.SumKind.the-variants.{Total, Others}
 use Rattle.construction.specs.Codes.{Code}
 use Rattle.staircase.specs.Codes as staircase
 use Rattle.ldpc.specs.Code174 as code174
-use Rattle.belief.specs.Rounds.{Decode}
+use Rattle.one_round.specs.Round.{Decode}
 
 -- a staircase code's decode
 abbrev pub staircaseDecode : Code → DecodeRule → List Float → Decode

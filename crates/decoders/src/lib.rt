@@ -1,7 +1,7 @@
 // The soft decoders of the staircase codes and of (174,91): the round loop of `belief` at each code's number.
 ghost use Rattle.decoders.specs.Calls.{decodingOf, Answered, softWith, soft, ft8Soft};
-use belief::Decoded;
 use refusal::Refusal;
+use rounds::Decoded;
 use softmath::DecodeRule;
 
 // The answer of a decoder: what is told beside the bits.
@@ -38,7 +38,7 @@ pub fn decode_soft_with(
     if bits.len() != ldpc_codes::bits_of(code) {
         return Decoding::Refused(Refusal::OutputLength);
     }
-    if work.len() < belief::WORK {
+    if work.len() < work_area::WORK {
         return Decoding::Refused(Refusal::WorkTooShort);
     }
     Decoding::Decoded(belief::decode(
@@ -76,7 +76,7 @@ pub fn ldpc_decode_soft(llr: &[f32], limit: u16, plain: &mut [u8], work: &mut [f
     if plain.len() != ldpc::N {
         return Decoding::Refused(Refusal::OutputLength);
     }
-    if work.len() < belief::WORK {
+    if work.len() < work_area::WORK {
         return Decoding::Refused(Refusal::WorkTooShort);
     }
     Decoding::Decoded(belief::decode(3, DecodeRule::Ft8, limit, llr, plain, work))

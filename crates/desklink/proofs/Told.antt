@@ -8,10 +8,10 @@ use lib.Ieee.{Float}
 use lib.IntN.{ℤ}
 use Rattle.refusal.specs.Outcome.{Outcome, refused, Condition, judged}
 use Rattle.tanner.specs.Checks.{Syndrome}
-use Rattle.belief.specs.Chosen.{Told}
+use Rattle.rounds.specs.Told.{Told}
 use Rattle.decoders.specs.Calls as decoders
 use Rattle.batch.specs.Calls as batch
-use Rattle.reason.specs.declared.Reason.{Reason}
+use Rattle.first_reason.specs.declared.Reason.{Reason}
 use Rattle.reason.specs.Calls as reason
 use Rattle.groups.specs.Groups as groups
 use Rattle.cycles.specs.Calls.{Report}

@@ -5,13 +5,13 @@ use Prim.Native.Nat.{ℕ}
 use lib.Ieee.{Float}
 use lib.IntN.{ℤ}
 use Rattle.refusal.specs.Outcome.{judged, kept}
-use Rattle.belief.specs.Rounds.{chosen, chosenBits}
-use Rattle.belief.specs.Chosen.{told}
-use Rattle.belief.specs.Area.{cleared}
+use Rattle.rounds.specs.Rounds.{chosen, chosenBits}
+use Rattle.rounds.specs.Told.{told}
+use Rattle.work_area.specs.Area.{cleared}
 use Rattle.decoders.specs.Calls.{Single}
 use Rattle.batch.specs.Codes.{decodeOf}
 use Rattle.batch.specs.Calls as batch
-use Rattle.reason.specs.Reasons.{reasonUnder}
+use Rattle.reason.specs.Under.{reasonUnder}
 use Rattle.reason.specs.Calls as reason
 use Rattle.groups.specs.Groups.{groupRefusals, overwritten}
 use Rattle.coded.specs.Coded.{codedUnit, Lent, Decodes, Explains}

@@ -13,9 +13,10 @@ use Rattle.softmath.specs.declared.DecodeRule.the-variants.{SumProduct, MinSum,
 use Rattle.softmath.proofs.ByOthers.{same-answers}
 use Rattle.tanner.specs.Checks.{Word, count, firstUnsatisfied}
 use Rattle.tanner.specs.Flat.{joined}
-use Rattle.belief.specs.Rounds.{Decode, firstMessages, answers, sent, initialWord, unlessDone, wordsFrom, roundWords, roundsRun}
-use Rattle.belief.specs.Rounds.{chosenFrom, chosen, chosenCount, chosenFirst, chosenBits}
-use Rattle.belief.specs.Area.{cleared}
+use Rattle.one_round.specs.Round.{Decode, firstMessages, answers, sent, initialWord}
+use Rattle.rounds.specs.Rounds.{unlessDone, wordsFrom, roundWords, roundsRun}
+use Rattle.rounds.specs.Rounds.{chosenFrom, chosen, chosenCount, chosenFirst, chosenBits}
+use Rattle.work_area.specs.Area.{cleared}
 use Rattle.batch.specs.Codes.{sizeK}
 use Rattle.batch.specs.Calls.{Lent, Batch, refusals, frames, frameDecode, written}
 use Rattle.check_places.specs.Places.{placeOf}

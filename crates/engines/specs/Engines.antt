@@ -1,5 +1,5 @@
 -- A decode, a batch and a listing whose checks answer by a given engine (change request N9). With the engine of document 01 they are the decode of
--- `belief`, the batch of `batch` and the listing of `listing` (`Same.antt`).
+-- `rounds`, the batch of `batch` and the listing of `listing` (`Same.antt`).
 use mathlib.Core.Path.{_≡_}
 use mathlib.Core.List.{List, [], _∷_, map}
 use Prim.Native.Nat.{ℕ, zero, suc}
@@ -13,8 +13,9 @@ use Rattle.softmath.specs.declared.DecodeRule.{DecodeRule}
 use Rattle.softmath.specs.declared.DecodeRule.the-variants.{SumProduct, MinSum, ScaledMinSum, Ft8}
 use Rattle.tanner.specs.Checks.{Word, count, firstUnsatisfied, First}
 use Rattle.tanner.specs.Flat.{joined}
-use Rattle.belief.specs.Rounds.{Decode, firstMessages, byCheck, decided, sent, initialWord, unlessDone, chosenFrom}
-use Rattle.belief.specs.Area.{cleared}
+use Rattle.one_round.specs.Round.{Decode, firstMessages, byCheck, decided, sent, initialWord}
+use Rattle.rounds.specs.Rounds.{unlessDone, chosenFrom}
+use Rattle.work_area.specs.Area.{cleared}
 use Rattle.batch.specs.Codes.{sizeK}
 use Rattle.batch.specs.Calls.{Lent, Batch, refusals, frames, frameDecode}
 use Rattle.check_places.specs.Places.{placeOf}

@@ -7,7 +7,8 @@ use lib.Ieee.{Float}
 use Rattle.refusal.specs.Outcome.{Outcome}
 use Rattle.softmath.specs.CheckNode.{checkStep}
 use Rattle.softmath.specs.declared.DecodeRule.{DecodeRule}
-use Rattle.belief.specs.Rounds.{Decode, answers, roundWords, roundsRun, chosen, chosenCount, chosenFirst, chosenBits}
+use Rattle.one_round.specs.Round.{Decode, answers}
+use Rattle.rounds.specs.Rounds.{roundWords, roundsRun, chosen, chosenCount, chosenFirst, chosenBits}
 use Rattle.batch.specs.Calls.{Lent, Batch, written, Answered}
 use Rattle.listing.specs.Listing.{listingOf}
 use Rattle.engines.specs.Engines.{Engine, answersBy, roundWordsBy, chosenBy, bitsBy, countBy, firstBy, roundsBy, writtenBy, AnsweredBy, listingBy}

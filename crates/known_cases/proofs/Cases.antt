@@ -10,7 +10,8 @@ use Rattle.ldpc.specs.Tables.{nm, numRows}
 use Rattle.ldpc.specs.Code174.{checks, rowsOfSeven}
 use Rattle.ldpc_encoding.proofs.Cases.{code-cases}
 use Rattle.known_cases.proofs.Staircase.{cases0, cases1, cases2}
-use Rattle.belief.specs.Rounds.{initialWord, wordsFrom, roundWords, chosenFrom, chosen, chosenCount, chosenBits}
+use Rattle.one_round.specs.Round.{initialWord}
+use Rattle.rounds.specs.Rounds.{wordsFrom, roundWords, chosenFrom, chosen, chosenCount, chosenBits}
 use Rattle.softmath.specs.declared.DecodeRule.the-variants.{Ft8}
 use Rattle.decoders.specs.Decodes.{ft8Decode}
 use Rattle.known_cases.specs.Cases.{minusZeros, nans, table, Yields}

@@ -13,7 +13,7 @@ use Rattle.softmath.specs.declared.DecodeRule.the-variants.{MinSum}
 use Rattle.ldpc.specs.Code174.{checks}
 use Rattle.ldpc_encoding.specs.Encoding.{codewordOf}
 use Rattle.ldpc_codes.specs.Calls.{syndromeBy}
-use Rattle.belief.specs.Rounds.{chosenCount, chosenBits}
+use Rattle.rounds.specs.Rounds.{chosenCount, chosenBits}
 use Rattle.softmath.specs.declared.DecodeRule.the-variants.{Ft8}
 use Rattle.decoders.specs.Decodes.{ft8Decode}
 

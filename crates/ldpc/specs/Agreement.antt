@@ -71,7 +71,7 @@ pub record Agreed : Type 0 where
   pub rising : (p : ℕ) → p < 174 → (0 < mnAt p 0) × (mnAt p 0 < mnAt p 1) × (mnAt p 1 < mnAt p 2) × (mnAt p 2 ≤ 83)
   -- the k-th check that lists position p is `MN`'s k-th, and there are no more
   pub order : (p : ℕ) → p < 174 → listing p 0 checks ≡ mnRow p
-  -- the edges over which the decoder adds position p's answers (`heard` of belief/specs/Rounds) are those of its checks "in `MN` order"
+  -- the edges over which the decoder adds position p's answers (`heard` of one_round/specs/Round) are those of its checks "in `MN` order"
   pub heard : (p : ℕ) → p < 174 → map (checkOfEdge 0 0 checks) (places p 0 (joined checks)) ≡ mnRow p
   -- each edge is in both: check c lists position p as often as position p's row of `MN` lists check c, and that is once at most
   pub edge : (p : ℕ) → p < 174 → (c : ℕ) → times p (getD checks c []) ≡ times c (mnRow p)

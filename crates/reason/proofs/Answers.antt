@@ -8,12 +8,12 @@ use lib.Ieee.{Float}
 use lib.ListN.{length}
 use Rattle.refusal.specs.Outcome.{accepted, refused}
 use Rattle.refusal.proofs.Judged.{verdict, nothing, judged-accepted, judged-refused, kept-accepted, kept-refused}
-use Rattle.belief.specs.Rounds.{chosen}
-use Rattle.belief.specs.Area.{cleared}
+use Rattle.rounds.specs.Rounds.{chosen}
+use Rattle.work_area.specs.Area.{cleared}
 use Rattle.batch.specs.Codes.{sizeN, decodeOf}
 use Rattle.batch.specs.Calls.{ruleNotOfCode}
-use Rattle.reason.specs.declared.Reason.{Reason}
-use Rattle.reason.specs.Reasons.{reasonUnder}
+use Rattle.first_reason.specs.declared.Reason.{Reason}
+use Rattle.reason.specs.Under.{reasonUnder}
 use Rattle.reason.specs.Calls.{Asked, refusals, Answered}
 
 module _ (a : Asked) where

@@ -1,49 +1,26 @@
--- Answers known beforehand, for (174,91): the definitions yield them, by computing. Assumes nothing.
+-- Answers known beforehand of decoded frames of (174,91): the definitions yield them, by computing. Assumes nothing.
 use mathlib.Core.Path.{_≡_, refl}
-use mathlib.Core.List.{List, [], _∷_, _++_}
-use lib.Ieee.{Float, binary32, ofBits, ofFields, nan, neg, isNan, odd, le, lt, eq}
+use mathlib.Core.List.{List}
+use lib.Ieee.{Float, binary32, ofBits, ofFields, neg, isNan, odd, le, lt, eq}
 use lib.ListN.{replicate}
-use Rattle.bits.specs.Bits.{bitsOf, bits, numberAfter}
+use Rattle.bits.specs.Bits.{numberAfter}
 use Rattle.crc.specs.Qex.{bringDown, divide, qex}
-use Rattle.tanner.specs.Checks.{Word, lowBits, parity, count, firstBy}
+use Rattle.tanner.specs.Checks.{lowBits, parity, count, firstBy}
 use Rattle.ldpc.specs.Tables.{nm, numRows}
 use Rattle.ldpc.specs.Code174.{rowsOfSeven, checks}
-use Rattle.ldpc_encoding.specs.Tables.{generator}
-use Rattle.ldpc_encoding.specs.Encoding.{under, rowsOfTwelve, parityBits, encodeBits}
 use Rattle.softmath.specs.Single.{zero32}
 use Rattle.softmath.specs.Functions.{decide}
-use Rattle.belief.specs.Rounds.{initialWord, roundWords, wordsFrom, chosenFrom, chosen}
+use Rattle.one_round.specs.Round.{initialWord}
+use Rattle.rounds.specs.Rounds.{roundWords, wordsFrom, chosenFrom, chosen}
 use Rattle.batch.specs.Codes.{sizeK, decodeBy}
 use Rattle.clean.specs.Clean.{checksumRight}
-use Rattle.reason.specs.declared.Reason.{Reason}
-use Rattle.reason.specs.declared.Reason.the-variants.{Nan, Check, Checksum, Clean}
-use Rattle.reason.specs.Reasons.{checksOf, firstNan, checksumOr, reasonFor, reasonUnder}
+use Rattle.first_reason.specs.declared.Reason.the-variants.{Check, Clean}
+use Rattle.first_reason.specs.Reasons.{checksOf, firstNan, checksumOr, reasonFor}
+use Rattle.reason.specs.Under.{reasonUnder}
 
--- 174 values 1.0, and what they and a word come to
+-- 174 values 1.0
 abbrev ones : List Float
 ones = replicate 174 (ofBits binary32 0x3f800000)
-
-by-word : Word → Reason
-by-word w = reasonFor 3 ones w
-
--- all zeros is a codeword with the right checksum; of all ones each check of 7 entries is unsatisfied, and check 0 is one; `MN` names checks 16, 45 and 73
--- for position 1, so that check 15 is the lowest of position 0, both counted from 0; the encoding of message bit 0 alone carries 0, and not 0x2bf8
-words : (by-word (replicate 174 0) ≡ Clean)
-    × ((by-word (replicate 174 1) ≡ Check 0)
-    × ((by-word (1 ∷ replicate 173 0) ≡ Check 15)
-    × (by-word (encodeBits (1 ∷ replicate 90 0)) ≡ Checksum 0 0x2bf8)))
-unfolding by-word encodeBits parityBits rowsOfTwelve under bits bitsOf generator reasonFor firstNan isNan ofBits ofFields checksOf checks
-    rowsOfSeven nm numRows firstBy parity checksumOr sizeK checksumRight lowBits qex divide bringDown numberAfter
-words = (refl, (refl, (refl, refl)))
-
--- a NaN in the last place, of a word that is open too; and NaN everywhere
-last-nan : reasonFor 3 (replicate 173 (ofBits binary32 0x3f800000) ++ (nan ∷ [])) (replicate 174 1) ≡ Nan 173
-unfolding reasonFor firstNan isNan ofBits ofFields
-last-nan = refl
-
-all-nan : reasonFor 3 (replicate 174 nan) (replicate 174 0) ≡ Nan 0
-unfolding reasonFor firstNan isNan
-all-nan = refl
 
 -- document 01's sample, and its frame of -0.0, which decides all ones
 sample : reasonUnder 3 0 zero32 ones 20 ≡ Clean

@@ -1,5 +1,4 @@
-pub mod Steps
 pub mod Word
 pub mod Answers
-pub mod Holds
+pub mod Under
 pub mod Cases

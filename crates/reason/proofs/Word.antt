@@ -11,13 +11,16 @@ use Rattle.tanner.specs.Checks.{Word, Checks, firstUnsatisfied}
 use Rattle.tanner.specs.Found.{firstOf}
 use Rattle.softmath.specs.declared.DecodeRule.{DecodeRule}
 use Rattle.rules.specs.Rules.{ruleOf}
-use Rattle.belief.specs.Rounds.{Decode, chosen, chosenFirst, chosenBits}
-use Rattle.belief.specs.Chosen.{Told, Chose}
-use Rattle.belief.specs.declared.Decoded.{Decoded}
+use Rattle.one_round.specs.Round.{Decode}
+use Rattle.rounds.specs.Rounds.{chosen, chosenFirst, chosenBits}
+use Rattle.rounds.specs.Told.{Told, Chose}
+use Rattle.rounds.specs.declared.Decoded.{Decoded}
 use Rattle.batch.specs.Codes.{sizeK, decodeBy, decodeOf}
 use Rattle.batch.proofs.Promise.{chosen-proper, llr-is}
-use Rattle.reason.specs.declared.Reason.the-variants.{Clean}
-use Rattle.reason.specs.Reasons.{checksOf, firstNan, nanOr, checkOr, checksumOr, reasonFor, reasonUnder}
+use Rattle.first_reason.specs.declared.Reason.the-variants.{Clean}
+use Rattle.first_reason.specs.Reasons.{checksOf, firstNan, nanOr, checkOr, checksumOr}
+use Rattle.first_reason.proofs.Answers.{reason-met}
+use Rattle.reason.specs.Under.{reasonUnder}
 
 pub checks-are : (code : ℕ) (r : DecodeRule) (llr : List Float) → decodeBy code r llr .checks ≡ checksOf code
 unfolding decodeBy checksOf
@@ -46,5 +49,5 @@ module _ (code rule : ℕ) (scale : Float) (values : List Float) (limit : ℕ) w
 
     pub reason-is : nanOr (firstNan 0 values) (checkOr (firstOf (r .first)) (checksumOr code (take (sizeK code) word) Clean))
         ≡ reasonUnder code rule scale values limit
-    unfolding reasonUnder reasonFor
-    reason-is = rw (first-is, word-whole)
+    unfolding reasonUnder
+    reason-is = rw word-whole (reason-met code (r .first) values (chosen d limit) first-is)

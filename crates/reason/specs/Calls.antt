@@ -8,14 +8,14 @@ use lib.Ieee.{Float}
 use lib.ListN.{length}
 use Rattle.refusal.specs.Outcome.{Outcome, accepted, refused, Condition, _when_, judged, kept}
 use Rattle.refusal.specs.Numbers.{numberOf}
-use Rattle.belief.specs.Rounds.{chosen}
-use Rattle.belief.specs.Area.{cleared}
+use Rattle.rounds.specs.Rounds.{chosen}
+use Rattle.work_area.specs.Area.{cleared}
 use Rattle.batch.specs.Codes.{sizeN, decodeOf}
 use Rattle.batch.specs.Calls.{ruleNotOfCode}
-use Rattle.reason.specs.declared.Reason.{Reason}
+use Rattle.first_reason.specs.declared.Reason.{Reason}
 use Rattle.reason.specs.declared.Explained.{Explained}
 use Rattle.reason.specs.declared.Explained.the-variants.{Because, Refused}
-use Rattle.reason.specs.Reasons.{reasonUnder}
+use Rattle.reason.specs.Under.{reasonUnder}
 
 abbrev pub explainedOf : Explained → Outcome Reason
 explainedOf (Because r) = accepted r

@@ -1,3 +1,2 @@
-pub mod Reasons
-pub mod Holds
+pub mod Under
 pub mod Calls

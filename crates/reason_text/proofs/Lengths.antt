@@ -8,8 +8,8 @@ use lib.ListN.{length, getD, length-append}
 use Rattle.tanner.specs.Checks.{Word, Checks}
 use Rattle.text.specs.Text.{space, field}
 use Rattle.text.proofs.Lengths.{decimal-short, field-length}
-use Rattle.reason.specs.declared.Reason.{Reason}
-use Rattle.reason.specs.declared.Reason.the-variants.{Nan, Check, Checksum, Clean}
+use Rattle.first_reason.specs.declared.Reason.{Reason}
+use Rattle.first_reason.specs.declared.Reason.the-variants.{Nan, Check, Checksum, Clean}
 use Rattle.reason_text.specs.Lines.{nanWord, checkWord, colon, nanLine, pairText, entry, entries, checkLine, checksumLine, cleanLine, reasonLine}
 
 pub nan-length : (p : ℕ) → length (nanLine p) ≡ length (field nanWord p) + 1

@@ -25,8 +25,8 @@ use Rattle.ldpc.proofs.Arrays.{checkStart, checkBits}
 use Rattle.ldpc.proofs.Graph.{check-start, flat, laid, many}
 use Rattle.text.specs.Written.{Written}
 use Rattle.batch.specs.Codes.{sizeN}
-use Rattle.reason.specs.declared.Reason.{Reason}
-use Rattle.reason.specs.Reasons.{checksOf}
+use Rattle.first_reason.specs.declared.Reason.{Reason}
+use Rattle.first_reason.specs.Reasons.{checksOf}
 use Rattle.reason_text.specs.Lines.{checkLine, reasonLine}
 use Rattle.reason_text.proofs.Lengths.{Short, check-short, reason-short}
 

@@ -4,8 +4,8 @@ use Prim.Native.Nat.{ℕ, _<_}
 use lib.ListN.{length, getD}
 use Rattle.tanner.specs.Checks.{Word, Checks}
 use Rattle.text.specs.Text.{space, newline, hexWord, field}
-use Rattle.reason.specs.declared.Reason.{Reason}
-use Rattle.reason.specs.declared.Reason.the-variants.{Nan, Check, Checksum, Clean}
+use Rattle.first_reason.specs.declared.Reason.{Reason}
+use Rattle.first_reason.specs.declared.Reason.the-variants.{Nan, Check, Checksum, Clean}
 
 -- ---- words
 

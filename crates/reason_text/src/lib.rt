@@ -1,7 +1,7 @@
 // The line that explains a frame: which reason it is, and what it names, written into a lent buffer.
+use first_reason::Reason;
 use ldpc::tables::CHECK_BITS;
 use ldpc::tables::CHECK_STARTS;
-use reason::Reason;
 use staircase::tables::N512R12_CHECK_BITS;
 use staircase::tables::N512R12_CHECK_STARTS;
 use staircase::tables::N512R34_CHECK_BITS;
@@ -14,7 +14,7 @@ ghost use lib.ListN.{length};
 ghost use Rattle.tanner.specs.Flat.{Below, FlatChecks, rowsOf};
 ghost use Rattle.text.specs.Written.{Written};
 ghost use Rattle.batch.specs.Codes.{sizeN};
-ghost use Rattle.reason.specs.Reasons.{checksOf};
+ghost use Rattle.first_reason.specs.Reasons.{checksOf};
 ghost use Rattle.reason_text.specs.Lines.{nanLine, pairText, entries, checkLine, checksumLine, reasonLine, Named};
 
 fn nan_line(out: &mut [u8], p: u16) -> usize

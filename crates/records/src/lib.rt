@@ -6,7 +6,7 @@ use refusal::Status;
 ghost use mathlib.Core.Path.{_≡_};
 ghost use Rattle.refusal.specs.Outcome.{judged};
 ghost use Rattle.refusal.specs.Answers.{statusOf};
-ghost use Rattle.belief.specs.Area.{cleared};
+ghost use Rattle.work_area.specs.Area.{cleared};
 ghost use Rattle.batch.specs.Codes.{sizeN, sizeK, decodeOf};
 ghost use Rattle.batch.specs.Pairs.{pair, frameOf};
 ghost use Rattle.batch.specs.Calls.{lent, batch, refusalsOf, written, Answered};
@@ -132,7 +132,7 @@ fn decode_records(
         );
         j += 1;
     }
-    belief::clear_area(work);
+    work_area::clear_area(work);
 }
 
 // The batch over pair records: "a lent list of pair records, each an offset and a length".

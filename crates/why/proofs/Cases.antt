@@ -11,15 +11,17 @@ use Rattle.tanner.specs.Flat.{joined}
 use Rattle.ldpc.specs.Tables.{nm, numRows}
 use Rattle.ldpc.specs.Code174.{rowsOfSeven, checks}
 use Rattle.softmath.specs.Functions.{decide}
-use Rattle.belief.specs.Rounds.{initialWord, roundWords, chosenFrom, chosen}
+use Rattle.one_round.specs.Round.{initialWord}
+use Rattle.rounds.specs.Rounds.{roundWords, chosenFrom, chosen}
 use Rattle.batch.specs.Codes.{sizeN, sizeK, decodeBy}
 use Rattle.batch.specs.Pairs.{pairsOf, frameOf}
 use Rattle.batch.specs.Calls.{ruleNotOfCode, pairRefusals, refusalsOf}
 use Rattle.clean.specs.Clean.{checksumRight}
 use Rattle.text.specs.Text.{leading, decimal, hexDigit, field, refusalLine}
 use Rattle.batch_input.specs.Input.{u32sFrom, floatOf, pairNumbers, valuesOf, malformed}
-use Rattle.reason.specs.declared.Reason.the-variants.{Nan, Check, Checksum}
-use Rattle.reason.specs.Reasons.{checksOf, firstNan, checksumOr, reasonFor, reasonUnder}
+use Rattle.first_reason.specs.declared.Reason.the-variants.{Nan, Check, Checksum}
+use Rattle.first_reason.specs.Reasons.{checksOf, firstNan, checksumOr, reasonFor}
+use Rattle.reason.specs.Under.{reasonUnder}
 use Rattle.reason_text.specs.Lines.{nanLine, pairText, entry, entries, checkLine, checksumLine, cleanLine, reasonLine}
 use Rattle.why.specs.Why.{frameLine, whyOf}
 

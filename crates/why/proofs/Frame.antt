@@ -5,17 +5,18 @@ use mathlib.Core.List.{List, []}
 use Prim.Native.Nat.{ℕ}
 use lib.Ieee.{Float}
 use Rattle.tanner.specs.Checks.{Word, counted}
-use Rattle.belief.specs.Rounds.{chosen}
+use Rattle.rounds.specs.Rounds.{chosen}
 use Rattle.batch.specs.Codes.{decodeOf}
 use Rattle.batch.specs.Pairs.{Pair}
 use Rattle.batch.specs.Calls.{lent, batch}
 use Rattle.batch_input.specs.Input.{codeOf, ruleOf, limitOf, scaleOf}
 use Rattle.batch_input.specs.Read.{HeaderOf}
 use Rattle.batch_input.specs.declared.Header.{Header}
-use Rattle.reason.specs.declared.Reason.{Reason}
-use Rattle.reason.specs.Reasons.{checksOf, reasonUnder}
-use Rattle.reason.specs.Holds.{Holds, byNan, byCheck, byChecksum, isClean}
-use Rattle.reason.proofs.Holds.{under-holds}
+use Rattle.first_reason.specs.declared.Reason.{Reason}
+use Rattle.first_reason.specs.Reasons.{checksOf}
+use Rattle.reason.specs.Under.{reasonUnder}
+use Rattle.first_reason.specs.Holds.{Holds, byNan, byCheck, byChecksum, isClean}
+use Rattle.reason.proofs.Under.{under-holds}
 use Rattle.reason_text.specs.Lines.{reasonLine, Named}
 use Rattle.why.specs.Why.{frameLine}
 

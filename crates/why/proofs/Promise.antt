@@ -10,10 +10,11 @@ use Rattle.refusal.specs.Outcome.{Outcome, accepted, refused}
 use Rattle.refusal.proofs.Judged.{verdict, judged-accepted, judged-refused}
 use Rattle.tanner.specs.Checks.{Word, Checks}
 use Rattle.text.specs.Text.{field, refusalLine, printed}
-use Rattle.reason.specs.declared.Reason.{Reason}
-use Rattle.reason.specs.declared.Reason.the-variants.{Nan, Check, Checksum, Clean}
-use Rattle.reason.specs.Reasons.{checksOf, reasonUnder}
-use Rattle.reason.proofs.Holds.{under-holds, clean-exactly}
+use Rattle.first_reason.specs.declared.Reason.{Reason}
+use Rattle.first_reason.specs.declared.Reason.the-variants.{Nan, Check, Checksum, Clean}
+use Rattle.first_reason.specs.Reasons.{checksOf}
+use Rattle.reason.specs.Under.{reasonUnder}
+use Rattle.reason.proofs.Under.{under-holds, clean-exactly}
 use Rattle.reason_text.specs.Lines.{nanLine, checkLine, checksumLine, cleanLine, reasonLine}
 use Rattle.why.specs.Why.{whyRefusals, frameLine, whyOf}
 use Rattle.why.specs.Promise.{Accepted, batchAsked, valuesAsked, wordAsked, cleanAsked, Explains, CleanPrinted}

@@ -7,13 +7,13 @@ use Prim.Native.Nat.{ℕ}
 use lib.Ieee.{Float}
 use Rattle.refusal.specs.Outcome.{accepted, judged}
 use Rattle.tanner.specs.Checks.{Word}
-use Rattle.belief.specs.Rounds.{chosen}
+use Rattle.rounds.specs.Rounds.{chosen}
 use Rattle.batch.specs.Calls.{Batch, frameDecode}
 use Rattle.clean_frames.specs.Limits.{cleanUnder}
 use Rattle.batch_input.specs.Handed.{batchIn}
-use Rattle.reason.specs.declared.Reason.{Reason}
-use Rattle.reason.specs.Reasons.{checksOf}
-use Rattle.reason.specs.Holds.{Holds}
+use Rattle.first_reason.specs.declared.Reason.{Reason}
+use Rattle.first_reason.specs.Reasons.{checksOf}
+use Rattle.first_reason.specs.Holds.{Holds}
 use Rattle.reason_text.specs.Lines.{reasonLine, cleanLine}
 use Rattle.why.specs.Why.{placeOf, batchOf, whyRefusals, frameAt, whyOf}
 

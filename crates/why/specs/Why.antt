@@ -7,11 +7,12 @@ use lib.Ieee.{Float}
 use lib.ListN.{length, getD, drop}
 use Rattle.refusal.specs.Outcome.{Condition, _when_, judged}
 use Rattle.text.specs.Text.{printed}
-use Rattle.belief.specs.Rounds.{chosen}
+use Rattle.rounds.specs.Rounds.{chosen}
 use Rattle.batch.specs.Calls.{Batch, refusals, frames, frameDecode}
 use Rattle.batch_input.specs.Input.{u16At, pairCount}
 use Rattle.batch_input.specs.Handed.{batchIn, inputRefusals}
-use Rattle.reason.specs.Reasons.{checksOf, reasonUnder}
+use Rattle.first_reason.specs.Reasons.{checksOf}
+use Rattle.reason.specs.Under.{reasonUnder}
 use Rattle.reason_text.specs.Lines.{reasonLine}
 
 -- ---- the input

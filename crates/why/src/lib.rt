@@ -1,8 +1,8 @@
 // Why a frame of a batch is open, as a line of text: the program's input read, and what is printed for it written into a lent buffer.
 use batch_refusals::Room;
-use belief::WORK;
 use refusal::Refusal;
 use refusal::Status;
+use work_area::WORK;
 ghost use mathlib.Core.Path.{_≡_};
 ghost use mathlib.Core.List.{[]};
 ghost use mathlib.Core.Bool.{false};

@@ -7,7 +7,7 @@ use Rattle.batch.specs.Codes.{sizeN, sizeK}
 use Rattle.batch.specs.Pairs.{pair, pairsOf, frameOf}
 use Rattle.batch.specs.Calls.{Lent, lent, Batch, batch, frameDecode}
 use Rattle.batch.specs.Steps.{PlaceFits, placed}
-use Rattle.belief.proofs.Area.{cleared-length}
+use Rattle.work_area.proofs.Area.{cleared-length}
 use Rattle.batch.proofs.Frames.{pair-inside, offsetAt, offset-is, Going, going-none, going-fits, going-more, going-done}
 use borrow.Author.Needs.{needs}
 use Rattle.batch.proofs.decode_frames.Statement.{statement}

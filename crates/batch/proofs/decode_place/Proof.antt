@@ -6,8 +6,9 @@ use Prim.Native.Nat.{ℕ, _+_, _*_, _-_, _≤_}
 use native.Mathlib.Omega.{arith}
 use lib.Ieee.{Float}
 use lib.ListN.{length, take, drop, set}
-use Rattle.belief.specs.Rounds.{Decode, chosenBits}
-use Rattle.belief.specs.Chosen.{Told, told}
+use Rattle.one_round.specs.Round.{Decode}
+use Rattle.rounds.specs.Rounds.{chosenBits}
+use Rattle.rounds.specs.Told.{Told, told}
 use Rattle.batch.specs.Codes.{sizeN, decodeOf}
 use Rattle.batch.specs.Pairs.{pair, frameOf}
 use Rattle.check_places.specs.Places.{placeOf}

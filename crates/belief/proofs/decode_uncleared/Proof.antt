@@ -2,8 +2,8 @@
 use mathlib.Core.Path.{sym, _∙_}
 use native.Mathlib.Omega.{arith}
 use lib.Seq.{length-take-le}
-use Rattle.belief.proofs.Area.{lent-cleared}
-use Rattle.belief.proofs.RoundHeld.{few-positions}
+use Rattle.work_area.proofs.Area.{lent-cleared}
+use Rattle.one_round.proofs.RoundHeld.{few-positions}
 use borrow.Author.Needs.{needs}
 use Rattle.belief.proofs.decode_uncleared.Statement.{statement}
 use Rattle.belief.proofs.decode_uncleared.Tie as tie

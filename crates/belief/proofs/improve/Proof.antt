@@ -1,8 +1,8 @@
 -- `belief::improve` meets its contract: no round where the initial word satisfies every check, else the rounds from the first messages. Assumes nothing.
 use mathlib.Core.Path.{ap, _∙_}
 use lib.ListN.{length}
-use Rattle.belief.proofs.BitWords.{initial-length}
-use Rattle.belief.proofs.RoundHeld.{first-held}
+use Rattle.one_round.proofs.BitWords.{initial-length}
+use Rattle.one_round.proofs.RoundHeld.{first-held}
 use Rattle.belief.proofs.Whole.{run-none, run-some}
 use borrow.Author.Needs.{needs}
 use borrow.Author.Needs.{needs}

@@ -7,7 +7,7 @@ use native.Mathlib.Nat.{zero-add}
 use native.Mathlib.Omega.{arith}
 use lib.Ieee.{Float}
 use lib.ListN.{length, getD, take, length-set}
-use Rattle.belief.proofs.Fill.{fill-more, fill-done}
+use Rattle.work_area.proofs.Fill.{fill-more, fill-done}
 use Rattle.batch.specs.Pairs.{pairsOf, framesOf}
 use Rattle.clean_frames.specs.CleanFrames.{cleanOf}
 use Rattle.groups.specs.Groups.{cleanFrom}

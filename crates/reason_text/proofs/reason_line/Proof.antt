@@ -3,9 +3,9 @@ use mathlib.Core.Path.{subst}
 use Prim.Native.Nat.{_≤_}
 use native.Mathlib.Omega.{arith}
 use lib.ListN.{length}
-use Rattle.reason.specs.declared.Reason.{Reason}
-use Rattle.reason.specs.declared.Reason.the-variants.{Nan, Check, Checksum, Clean}
-use Rattle.reason.specs.Reasons.{checksOf}
+use Rattle.first_reason.specs.declared.Reason.{Reason}
+use Rattle.first_reason.specs.declared.Reason.the-variants.{Nan, Check, Checksum, Clean}
+use Rattle.first_reason.specs.Reasons.{checksOf}
 use Rattle.reason_text.specs.Lines.{cleanLine, reasonLine, Named}
 use Rattle.reason_text.proofs.Lengths.{reason-short}
 use Rattle.reason_text.proofs.Tables.{all-short, line-of}

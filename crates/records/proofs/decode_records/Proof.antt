@@ -43,12 +43,12 @@ use Rattle.batch.specs.Codes.{sizeN, sizeK}
 use Rattle.batch.specs.Pairs as named
 use Rattle.batch.specs.Calls.{Lent, lent, Batch, batch, frameDecode, written}
 use Rattle.batch.specs.Steps.{Fitting, PlaceFits, placed}
-use Rattle.belief.specs.Area.{cleared}
+use Rattle.work_area.specs.Area.{cleared}
 use Rattle.batch.proofs.Frames.{offsetAt, Going, going-none, going-fits, going-more, going-done}
-use Rattle.belief.proofs.clear_area as clear
-use Rattle.belief.proofs.clear_area.Symbol as clear-def
-use Rattle.belief.proofs.clear_area.Symbol.{name as #belief·clear-area}
-use Rattle.belief.proofs.clear_area.Met as clear-thm
+use Rattle.work_area.proofs.clear_area as clear
+use Rattle.work_area.proofs.clear_area.Symbol as clear-def
+use Rattle.work_area.proofs.clear_area.Symbol.{name as #work-area·clear-area}
+use Rattle.work_area.proofs.clear_area.Met as clear-thm
 use Rattle.records.specs.declared.Pair.{Pair}
 use Rattle.records.specs.Fields.{pairOf, pairsOf}
 use Rattle.records.proofs.Types.{pair, none}
@@ -130,7 +130,7 @@ left-over {b} t = length (b .pairs) - t .j
 -- ---- the walk
 module _ {M : Type 1} (𝓤 : URA M) (H : Heap 𝓤) (A : Atoms 𝓤) (W : Given 𝓤 H A) (mem : Memory → SProp 𝓤) (run : Routine → Fun 𝓤) (𝓣 : Tables 𝓤 H)
     (known-place : Triple 𝓤 (𝓣 .C #records·decode-record) (Callee 𝓤 H A place.ended (place.clauses 𝓤 H A mem run)))
-    (known-clear : Triple 𝓤 (𝓣 .C #belief·clear-area) (Callee 𝓤 H A clear.ended (clear.clauses 𝓤 H A mem run))) where
+    (known-clear : Triple 𝓤 (𝓣 .C #work-area·clear-area) (Callee 𝓤 H A clear.ended (clear.clauses 𝓤 H A mem run))) where
   module _ (n : Numbers) (h : Handles) (vs : List Float) (ys : List Pair) (m : Lent) (sizes : Sizes vs ys m) (fit : Fitting (b n vs ys m)) where
     abbrev B : Batch
     B = b n vs ys m
@@ -254,5 +254,5 @@ decode-records-spec 𝓤 H 𝓜 𝓖 𝓡 =
     (meets 𝓤 H (𝓖 .A) (givenOf 𝓤 H 𝓜 𝓖) (𝓜 .mem) (𝓡 .run) (tablesOf 𝓤 H 𝓜 (tables 𝓤 H 𝓜 𝓡 code-of.env))
     (cited 𝓤 H (Callee 𝓤 H (𝓖 .A) place.ended (place.clauses 𝓤 H (𝓖 .A) (𝓜 .mem) (𝓡 .run))) 𝓜 𝓡 code-of.env #records·decode-record place-def.routine
     code-of.calls-records·decode-record (place-thm.met 𝓤 H 𝓜 𝓖 𝓡))
-    (cited 𝓤 H (Callee 𝓤 H (𝓖 .A) clear.ended (clear.clauses 𝓤 H (𝓖 .A) (𝓜 .mem) (𝓡 .run))) 𝓜 𝓡 code-of.env #belief·clear-area clear-def.routine
-    code-of.calls-belief·clear-area (clear-thm.met 𝓤 H 𝓜 𝓖 𝓡)))
+    (cited 𝓤 H (Callee 𝓤 H (𝓖 .A) clear.ended (clear.clauses 𝓤 H (𝓖 .A) (𝓜 .mem) (𝓡 .run))) 𝓜 𝓡 code-of.env #work-area·clear-area clear-def.routine
+    code-of.calls-work-area·clear-area (clear-thm.met 𝓤 H 𝓜 𝓖 𝓡)))
