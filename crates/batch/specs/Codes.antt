@@ -10,9 +10,9 @@ use Rattle.softmath.specs.declared.DecodeRule.{DecodeRule}
 use Rattle.one_round.specs.Round.{Decode}
 use Rattle.rules.specs.Rules.{ruleOf}
 use Rattle.decoders.specs.Decodes.{staircaseDecode, ft8Decode}
--- N, a frame's values, and K, its message bits: defined in crate `batch_refusals` (specs/Codes.antt)
-pub use Rattle.batch_refusals.specs.Codes.{byCode}
-unfoldable pub use Rattle.batch_refusals.specs.Codes.{sizeN, sizeK}
+-- N, a frame's values, and K, its message bits: defined in crate `numbered` (specs/Codes.antt)
+pub use Rattle.numbered.specs.Codes.{byCode}
+unfoldable pub use Rattle.numbered.specs.Codes.{sizeN, sizeK}
 
 -- the decode of a frame's values by a check step
 unfoldable pub decodeBy : ℕ → DecodeRule → List Float → Decode

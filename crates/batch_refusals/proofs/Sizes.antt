@@ -5,7 +5,7 @@ use native.Mathlib.Nat.{mul-le-mul}
 use native.Mathlib.Omega.{arith}
 use Rattle.construction.specs.Codes.{blockLength}
 use Rattle.staircase.specs.Codes.{codeOf}
-use Rattle.batch_refusals.specs.Codes.{sizeN, sizeK}
+use Rattle.numbered.specs.Codes.{sizeN, sizeK}
 
 pub values-ft8 : (n : ℕ) → 2 < n → 174 ≡ sizeN n
 unfolding sizeN

@@ -9,7 +9,7 @@ use lib.Dec.{eqb, ltb}
 use lib.ListN.{length}
 use Rattle.refusal.specs.Outcome.{refused, Condition}
 use Rattle.refusal.proofs.Judged.{verdict, nothing, passed-by, judged-past, judged-front, accepted-front, accepted-rest}
-use Rattle.batch_refusals.specs.Codes.{sizeN, sizeK}
+use Rattle.numbered.specs.Codes.{sizeN, sizeK}
 use Rattle.batch_refusals.specs.Pairs.{Pair, AllWithin}
 use Rattle.batch_refusals.specs.Refusals.{ruleNotOfCode, headRefusals, pairRefusals, refusalsOf}
 use Rattle.batch_refusals.specs.declared.Room.{Room}

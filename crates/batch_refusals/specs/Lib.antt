@@ -1,4 +1,3 @@
-pub mod Codes
 pub mod Pairs
 pub mod Refusals
 pub mod Steps

@@ -5,7 +5,7 @@ use Prim.Native.Nat.{ℕ, _+_, _*_}
 use lib.Dec.{eqb, ltb}
 use lib.ListN.{length}
 use Rattle.refusal.specs.Outcome.{Condition, _when_}
-use Rattle.batch_refusals.specs.Codes.{sizeN, sizeK}
+use Rattle.numbered.specs.Codes.{sizeN, sizeK}
 use Rattle.batch_refusals.specs.Pairs.{Pair}
 use Rattle.batch_refusals.specs.declared.Room.{Room}
 

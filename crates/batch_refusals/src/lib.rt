@@ -6,7 +6,7 @@ ghost use mathlib.Core.Path.{_≡_};
 ghost use Prim.Native.Nat.{_<_};
 ghost use Rattle.refusal.specs.Outcome.{judged};
 ghost use Rattle.refusal.specs.Answers.{statusOf};
-ghost use Rattle.batch_refusals.specs.Codes.{sizeN, sizeK};
+ghost use Rattle.numbered.specs.Codes.{sizeN, sizeK};
 ghost use Rattle.batch_refusals.specs.Pairs.{pair, pairsOf};
 ghost use Rattle.batch_refusals.specs.Refusals.{ruleNotOfCode, pairTests, pairRefusals, headRefusals, refusalsOf};
 ghost use Rattle.batch_refusals.specs.Steps.{seenOf, nextSeen, seenAll};

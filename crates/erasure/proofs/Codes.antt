@@ -22,7 +22,7 @@ use Rattle.ldpc.specs.Code174 as code174
 use Rattle.ldpc.proofs.Agreement.{agreed}
 use Rattle.ldpc.proofs.Graph.{checks-low}
 use Rattle.filling.specs.Promise.{named, NoneTwice, Fills}
-use Rattle.erasure.specs.Calls.{checksBy}
+use Rattle.numbered.specs.Codes.{checksBy}
 use Rattle.filling.proofs.Named.{named-cons, named-none, named-fresh, named-append, named-other, named-past}
 use Rattle.filling.proofs.Laws.{fills}
 
@@ -106,6 +106,7 @@ ft8-once c p = by (decLt p 174)
 -- ---- all four
 
 none-twice : (code : ℕ) → NoneTwice (checksBy code)
+unfolding checksBy
 none-twice zero = staircase-once n512r12
 none-twice (suc zero) = staircase-once n576r23
 none-twice (suc (suc zero)) = staircase-once n512r34

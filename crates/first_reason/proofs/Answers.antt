@@ -7,11 +7,12 @@ use lib.ListN.{take}
 use Rattle.tanner.specs.Checks.{Word, firstUnsatisfied}
 use Rattle.tanner.specs.Found.{firstOf}
 use Rattle.tanner.specs.declared.FirstCheck.{FirstCheck}
-use Rattle.batch_refusals.specs.Codes.{sizeK}
+use Rattle.numbered.specs.Codes.{sizeK}
 use Rattle.first_reason.specs.declared.Reason.the-variants.{Clean}
-use Rattle.first_reason.specs.Reasons.{checksOf, firstNan, nanOr, checkOr, checksumOr, reasonFor}
+use Rattle.numbered.specs.Codes.{checksBy}
+use Rattle.first_reason.specs.Reasons.{firstNan, nanOr, checkOr, checksumOr, reasonFor}
 
-pub reason-met : (code : ℕ) (first : FirstCheck) (values : List Float) (word : Word) → firstOf first ≡ firstUnsatisfied (checksOf code) word
+pub reason-met : (code : ℕ) (first : FirstCheck) (values : List Float) (word : Word) → firstOf first ≡ firstUnsatisfied (checksBy code) word
     → nanOr (firstNan 0 values) (checkOr (firstOf first) (checksumOr code (take (sizeK code) word) Clean)) ≡ reasonFor code values word
 unfolding reasonFor
 reason-met code first values word e = rw e

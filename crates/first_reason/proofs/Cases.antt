@@ -10,11 +10,12 @@ use Rattle.ldpc.specs.Tables.{nm, numRows}
 use Rattle.ldpc.specs.Code174.{rowsOfSeven, checks}
 use Rattle.ldpc_encoding.specs.Tables.{generator}
 use Rattle.ldpc_encoding.specs.Encoding.{under, rowsOfTwelve, parityBits, encodeBits}
-use Rattle.batch_refusals.specs.Codes.{sizeK}
+use Rattle.numbered.specs.Codes.{sizeK}
 use Rattle.clean.specs.Clean.{checksumRight}
 use Rattle.first_reason.specs.declared.Reason.{Reason}
 use Rattle.first_reason.specs.declared.Reason.the-variants.{Nan, Check, Checksum, Clean}
-use Rattle.first_reason.specs.Reasons.{checksOf, firstNan, checksumOr, reasonFor}
+use Rattle.numbered.specs.Codes.{checksBy}
+use Rattle.first_reason.specs.Reasons.{firstNan, checksumOr, reasonFor}
 
 -- 174 values 1.0, and what they and a word come to
 abbrev ones : List Float
@@ -29,7 +30,7 @@ words : (by-word (replicate 174 0) ≡ Clean)
     × ((by-word (replicate 174 1) ≡ Check 0)
     × ((by-word (1 ∷ replicate 173 0) ≡ Check 15)
     × (by-word (encodeBits (1 ∷ replicate 90 0)) ≡ Checksum 0 0x2bf8)))
-unfolding by-word encodeBits parityBits rowsOfTwelve under bits bitsOf generator reasonFor firstNan isNan ofBits ofFields checksOf checks
+unfolding by-word encodeBits parityBits rowsOfTwelve under bits bitsOf generator reasonFor firstNan isNan ofBits ofFields checksBy checks
     rowsOfSeven nm numRows firstBy parity checksumOr sizeK checksumRight lowBits qex divide bringDown numberAfter
 words = (refl, (refl, (refl, refl)))
 

@@ -13,13 +13,14 @@ use lib.ListN.{length, getD, take}
 use Rattle.tanner.specs.Checks.{Word, First, none, parity, count, firstUnsatisfied, FirstIs, counted, satisfied}
 use Rattle.tanner.proofs.First.{first-is, none-count, count-none}
 use Rattle.ldpc.proofs.Tests.{and-left, and-right}
-use Rattle.batch_refusals.specs.Codes.{sizeK}
+use Rattle.numbered.specs.Codes.{sizeK}
 use Rattle.clean.specs.Clean.{anyNan, payloadChecksum, carriedChecksum, checksumRight, frameClean}
 use Rattle.first_reason.specs.declared.Reason.{Reason}
 use Rattle.first_reason.specs.declared.Reason.the-variants.{Checksum, Clean}
 use Rattle.first_reason.specs.declared.FirstNan.{FirstNan}
 use Rattle.first_reason.specs.declared.FirstNan.the-variants.{At, Absent}
-use Rattle.first_reason.specs.Reasons.{checksOf, firstNan, nanOr, checkOr, checksumOr, reasonFor}
+use Rattle.numbered.specs.Codes.{checksBy}
+use Rattle.first_reason.specs.Reasons.{firstNan, nanOr, checkOr, checksumOr, reasonFor}
 use Rattle.first_reason.specs.Holds.{LowestNan, NoNan, AllSatisfied, IsClean, Holds, byNan, byCheck, byChecksum, isClean}
 
 -- ---- the lowest NaN
@@ -73,13 +74,13 @@ module _ (code : ℕ) (values : List Float) (word : Word) where
   bits = take (sizeK code) word
 
   abbrev first : First
-  first = firstUnsatisfied (checksOf code) word
+  first = firstUnsatisfied (checksBy code) word
 
   -- a checksum that is not asked for, or right, or wrong
   by-checksum : NoNan values → first ≡ none → AllSatisfied code word → (t : Bool) → (not (eqb code 3) || checksumRight bits) ≡ t
       → Holds code values word (cond t Clean (Checksum (carriedChecksum bits) (payloadChecksum bits)))
   unfolding frameClean checksumRight
-  by-checksum all e s true h = isClean (rw (eq-eqb _ _ (none-count (checksOf code) word e), none-any values all, h))
+  by-checksum all e s true h = isClean (rw (eq-eqb _ _ (none-count (checksBy code) word e), none-any values all, h))
   by-checksum all e s false h =
       byChecksum (carriedChecksum bits) (payloadChecksum bits) all s (ft8 (eqb code 3) refl h) refl refl (wrong (eqb code 3) h)
     where
@@ -91,7 +92,7 @@ module _ (code : ℕ) (values : List Float) (word : Word) where
       wrong true h e = eqb-false (payloadChecksum bits) (carriedChecksum bits) h (sym e)
       wrong false h e = let z : _≡_ {A = ℕ} 0 1 = cc in omega arith
 
-  by-check : NoNan values → (f : First) → first ≡ f → FirstIs (λ r. parity r word) (checksOf code) f
+  by-check : NoNan values → (f : First) → first ≡ f → FirstIs (λ r. parity r word) (checksBy code) f
       → Holds code values word (checkOr f (checksumOr code bits Clean))
   unfolding checksumOr
   by-check all _ e (counted c h n below) = byCheck c all (counted c h n below)
@@ -99,7 +100,7 @@ module _ (code : ℕ) (values : List Float) (word : Word) where
 
   by-nan : {f : FirstNan} → Finds 0 values f → Holds code values word (nanOr f (checkOr first (checksumOr code bits Clean)))
   by-nan (found i l) = rw (zero-add i) (byNan i l)
-  by-nan (absent all) = by-check all first refl (first-is (λ r. parity r word) (checksOf code))
+  by-nan (absent all) = by-check all first refl (first-is (λ r. parity r word) (checksBy code))
 
   pub reason-holds : Holds code values word (reasonFor code values word)
   unfolding reasonFor
@@ -119,9 +120,9 @@ module _ (code : ℕ) (values : List Float) (word : Word) where
   pub clean-each : IsClean code values word → reasonFor code values word ≡ Clean
   unfolding reasonFor frameClean checksumOr
   clean-each h =
-      let zero = eqb (count (checksOf code) word) 0 in
+      let zero = eqb (count (checksBy code) word) 0 in
       let free = not (anyNan values) in
       let sums = not (eqb code 3) || checksumRight bits in
       let rest = and-right zero (free && sums) h in
-      let satisfies = count-none (checksOf code) word (eqb-true _ _ (and-left zero (free && sums) h)) in
+      let satisfies = count-none (checksBy code) word (eqb-true _ _ (and-left zero (free && sums) h)) in
       rw (any-absent 0 values (not-true (anyNan values) (and-left free sums rest)), satisfies, and-right free sums rest)

@@ -7,11 +7,11 @@ use Prim.Native.Nat.{ℕ, _<_}
 use lib.Ieee.{Float, isNan, nan}
 use lib.ListN.{length, getD, take}
 use Rattle.tanner.specs.Checks.{Word, check, none, parity, count, FirstIs}
-use Rattle.batch_refusals.specs.Codes.{sizeK}
+use Rattle.numbered.specs.Codes.{sizeK}
 use Rattle.clean.specs.Clean.{payloadChecksum, carriedChecksum, frameClean}
 use Rattle.first_reason.specs.declared.Reason.{Reason}
 use Rattle.first_reason.specs.declared.Reason.the-variants as reason
-use Rattle.first_reason.specs.Reasons.{checksOf}
+use Rattle.numbered.specs.Codes.{checksBy}
 
 -- "`nan` and the lowest such position within the frame"
 pub record LowestNan (values : List Float) (p : ℕ) : Type 0 where
@@ -24,14 +24,14 @@ NoNan values = (j : ℕ) → j < length values → isNan (getD values j nan) ≡
 
 -- "the lowest unsatisfied check's number"
 abbrev pub LowestCheck : ℕ → Word → ℕ → Type 0
-LowestCheck code word c = FirstIs (λ r. parity r word) (checksOf code) (check c)
+LowestCheck code word c = FirstIs (λ r. parity r word) (checksBy code) (check c)
 
 abbrev pub AllSatisfied : ℕ → Word → Type 0
-AllSatisfied code word = FirstIs (λ r. parity r word) (checksOf code) none
+AllSatisfied code word = FirstIs (λ r. parity r word) (checksBy code) none
 
 -- clean by change request N2: by its count, its values and, for code 3, the checksum of its message bits
 abbrev pub IsClean : ℕ → List Float → Word → Type 0
-IsClean code values word = frameClean code values (count (checksOf code) word) (take (sizeK code) word) ≡ true
+IsClean code values word = frameClean code values (count (checksBy code) word) (take (sizeK code) word) ≡ true
 
 -- a reason that holds of a frame of that code with these values and this word, no earlier one holding
 pub data Holds (code : ℕ) (values : List Float) (word : Word) : Reason → Type 0 where

@@ -6,19 +6,13 @@ use Prim.Native.Nat.{ℕ, suc}
 use lib.Dec.{eqb}
 use lib.Ieee.{Float, isNan}
 use lib.ListN.{take}
-use Rattle.tanner.specs.Checks.{Word, Checks, First, check, none, firstUnsatisfied}
-use Rattle.staircase.specs.Codes as staircase
-use Rattle.ldpc.specs.Code174 as code174
-use Rattle.batch_refusals.specs.Codes.{byCode, sizeK}
+use Rattle.tanner.specs.Checks.{Word, First, check, none, firstUnsatisfied}
+use Rattle.numbered.specs.Codes.{sizeK, checksBy}
 use Rattle.clean.specs.Clean.{payloadChecksum, carriedChecksum, checksumRight}
 use Rattle.first_reason.specs.declared.Reason.{Reason}
 use Rattle.first_reason.specs.declared.Reason.the-variants.{Nan, Check, Checksum, Clean}
 use Rattle.first_reason.specs.declared.FirstNan.{FirstNan}
 use Rattle.first_reason.specs.declared.FirstNan.the-variants.{At, Absent}
-
--- the checks of the code with that number
-unfoldable pub checksOf : ℕ → Checks
-checksOf code = byCode code (λ c. staircase.checks c) code174.checks
 
 -- the lowest position of a NaN; the first of the values is at position p
 unfoldable pub firstNan : ℕ → List Float → FirstNan
@@ -42,4 +36,4 @@ checksumOr code bits r = cond (not (eqb code 3) || checksumRight bits) r (Checks
 -- "the first that applies .. otherwise `clean`", of a frame of that code with these values and this word; "A word's message bits are its first K"
 unfoldable pub reasonFor : ℕ → List Float → Word → Reason
 reasonFor code values word =
-    nanOr (firstNan 0 values) (checkOr (firstUnsatisfied (checksOf code) word) (checksumOr code (take (sizeK code) word) Clean))
+    nanOr (firstNan 0 values) (checkOr (firstUnsatisfied (checksBy code) word) (checksumOr code (take (sizeK code) word) Clean))

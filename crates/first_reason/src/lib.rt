@@ -4,7 +4,7 @@ ghost use mathlib.Core.Path.{_≡_};
 ghost use Prim.Native.Nat.{_≤_};
 ghost use lib.ListN.{length, take};
 ghost use Rattle.tanner.specs.Found.{firstOf};
-ghost use Rattle.batch_refusals.specs.Codes.{sizeK};
+ghost use Rattle.numbered.specs.Codes.{sizeK};
 ghost use Rattle.first_reason.specs.Reasons.{firstNan, nanOr, checkOr, checksumOr};
 
 // The first reason that applies: the lowest position of a NaN; the lowest unsatisfied check; for code 3 the checksum that the bits carry and the one

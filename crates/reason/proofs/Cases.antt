@@ -15,7 +15,8 @@ use Rattle.rounds.specs.Rounds.{roundWords, wordsFrom, chosenFrom, chosen}
 use Rattle.batch.specs.Codes.{sizeK, decodeBy}
 use Rattle.clean.specs.Clean.{checksumRight}
 use Rattle.first_reason.specs.declared.Reason.the-variants.{Check, Clean}
-use Rattle.first_reason.specs.Reasons.{checksOf, firstNan, checksumOr, reasonFor}
+use Rattle.numbered.specs.Codes.{checksBy}
+use Rattle.first_reason.specs.Reasons.{firstNan, checksumOr, reasonFor}
 use Rattle.reason.specs.Under.{reasonUnder}
 
 -- 174 values 1.0
@@ -24,11 +25,11 @@ ones = replicate 174 (ofBits binary32 0x3f800000)
 
 -- document 01's sample, and its frame of -0.0, which decides all ones
 sample : reasonUnder 3 0 zero32 ones 20 ≡ Clean
-unfolding reasonUnder reasonFor firstNan isNan ofBits ofFields checksOf checks rowsOfSeven nm numRows firstBy parity count checksumOr sizeK
+unfolding reasonUnder reasonFor firstNan isNan ofBits ofFields checksBy checks rowsOfSeven nm numRows firstBy parity count checksumOr sizeK
     checksumRight lowBits qex divide bringDown numberAfter decodeBy chosen chosenFrom initialWord roundWords wordsFrom decide odd le lt eq
 sample = refl
 
 minus-zeros : reasonUnder 3 0 zero32 (replicate 174 (neg zero32)) 0 ≡ Check 0
-unfolding reasonUnder reasonFor firstNan isNan ofBits ofFields checksOf checks rowsOfSeven nm numRows firstBy parity count checksumOr sizeK
+unfolding reasonUnder reasonFor firstNan isNan ofBits ofFields checksBy checks rowsOfSeven nm numRows firstBy parity count checksumOr sizeK
     decodeBy chosen chosenFrom initialWord roundWords wordsFrom decide odd le lt eq neg
 minus-zeros = refl

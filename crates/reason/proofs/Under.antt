@@ -10,7 +10,7 @@ use Rattle.rounds.specs.Rounds.{chosen, chosenCount, chosenBits}
 use Rattle.batch.specs.Codes.{sizeK, decodeOf}
 use Rattle.clean.specs.Clean.{frameClean}
 use Rattle.clean_frames.specs.Limits.{cleanUnder}
-use Rattle.first_reason.specs.Reasons.{checksOf}
+use Rattle.numbered.specs.Codes.{checksBy}
 use Rattle.first_reason.specs.Holds.{Holds}
 use Rattle.first_reason.proofs.Holds.{reason-holds, clean-only, clean-each}
 use Rattle.reason.specs.Under.{reasonUnder, CleanExactly}
@@ -25,7 +25,7 @@ module _ (code rule : ℕ) (scale : Float) (values : List Float) (limit : ℕ) w
   unfolding reasonUnder
   under-holds = reason-holds code values word
 
-  same-clean : cleanUnder code rule scale values limit ≡ frameClean code values (count (checksOf code) word) (take (sizeK code) word)
+  same-clean : cleanUnder code rule scale values limit ≡ frameClean code values (count (checksBy code) word) (take (sizeK code) word)
   unfolding cleanUnder chosenCount chosenBits
   same-clean = rw (checks-are code (ruleOf code rule scale) values)
 

@@ -18,12 +18,13 @@ use Rattle.rounds.specs.declared.Decoded.{Decoded}
 use Rattle.batch.specs.Codes.{sizeK, decodeBy, decodeOf}
 use Rattle.batch.proofs.Promise.{chosen-proper, llr-is}
 use Rattle.first_reason.specs.declared.Reason.the-variants.{Clean}
-use Rattle.first_reason.specs.Reasons.{checksOf, firstNan, nanOr, checkOr, checksumOr}
+use Rattle.numbered.specs.Codes.{checksBy}
+use Rattle.first_reason.specs.Reasons.{firstNan, nanOr, checkOr, checksumOr}
 use Rattle.first_reason.proofs.Answers.{reason-met}
 use Rattle.reason.specs.Under.{reasonUnder}
 
-pub checks-are : (code : ℕ) (r : DecodeRule) (llr : List Float) → decodeBy code r llr .checks ≡ checksOf code
-unfolding decodeBy checksOf
+pub checks-are : (code : ℕ) (r : DecodeRule) (llr : List Float) → decodeBy code r llr .checks ≡ checksBy code
+unfolding decodeBy checksBy
 checks-are zero r llr = refl
 checks-are (suc zero) r llr = refl
 checks-are (suc (suc zero)) r llr = refl
@@ -41,7 +42,7 @@ module _ (code rule : ℕ) (scale : Float) (values : List Float) (limit : ℕ) w
     unfolding chosenBits
     word-whole = chose .front ∙ take-all k (chosen d limit) (omega (arith, word-length))
 
-    first-is : firstOf (r .first) ≡ firstUnsatisfied (checksOf code) (chosen d limit)
+    first-is : firstOf (r .first) ≡ firstUnsatisfied (checksBy code) (chosen d limit)
     unfolding chosenFirst
     first-is =
         ap (λ (t : Told). t .first) (chose .tells)

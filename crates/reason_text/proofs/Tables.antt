@@ -24,9 +24,8 @@ use Rattle.ldpc.proofs.Tests.{each-at}
 use Rattle.ldpc.proofs.Arrays.{checkStart, checkBits}
 use Rattle.ldpc.proofs.Graph.{check-start, flat, laid, many}
 use Rattle.text.specs.Written.{Written}
-use Rattle.batch.specs.Codes.{sizeN}
 use Rattle.first_reason.specs.declared.Reason.{Reason}
-use Rattle.first_reason.specs.Reasons.{checksOf}
+use Rattle.numbered.specs.Codes.{sizeN, checksBy}
 use Rattle.reason_text.specs.Lines.{checkLine, reasonLine}
 use Rattle.reason_text.proofs.Lengths.{Short, check-short, reason-short}
 
@@ -53,12 +52,12 @@ module _ (rs : Checks) (starts : List ℕ) (s : starts ≡ offsets rs) where
 
 pub record Tables (code : ℕ) (starts positions : List ℕ) : Type 0 where
   pub flat : FlatChecks starts positions (sizeN code)
-  pub rows : rowsOf starts positions ≡ checksOf code
-  pub many : length starts ≡ suc (length (checksOf code))
-  pub short : Short (checksOf code)
+  pub rows : rowsOf starts positions ≡ checksBy code
+  pub many : length starts ≡ suc (length (checksBy code))
+  pub short : Short (checksBy code)
 
 -- of a code whose checks are these
-tables-by : (code : ℕ) (rs : Checks) (starts positions : List ℕ) → checksOf code ≡ rs → starts ≡ offsets rs → rowsOf starts positions ≡ rs
+tables-by : (code : ℕ) (rs : Checks) (starts positions : List ℕ) → checksBy code ≡ rs → starts ≡ offsets rs → rowsOf starts positions ≡ rs
     → FlatChecks starts positions (sizeN code)
     → (n : ℕ) → length rs ≡ n → each n (λ c. leb (getD starts (c + 1) 0 - getD starts c 0) 11) ≡ true → Tables code starts positions
 tables-by code rs starts positions e s r f n size t = record {
@@ -69,30 +68,30 @@ tables-by code rs starts positions e s r f n size t = record {
 }
 
 -- of a staircase code
-stairs-by : (code : ℕ) (c : Code) (starts positions : List ℕ) → checksOf code ≡ checks c → sizeN code ≡ blockLength c → starts ≡ offsets (checks c)
+stairs-by : (code : ℕ) (c : Code) (starts positions : List ℕ) → checksBy code ≡ checks c → sizeN code ≡ blockLength c → starts ≡ offsets (checks c)
     → positions ≡ joined (checks c)
     → c .m < 65536 → each (c .m) (λ k. leb (getD starts (k + 1) 0 - getD starts k 0) 11) ≡ true → Tables code starts positions
 stairs-by code c starts positions e n s f small t =
     tables-by code (checks c) starts positions e s (rw (s, f) (rows-laid (checks c))) (rw n (laid-flat c starts positions s f small)) (c .m) (checks-many c) t
 
 pub tables0 : Tables 0 checkStarts0 checkBits0
-unfolding checksOf sizeN checkStarts0 each
+unfolding checksBy sizeN checkStarts0 each
 tables0 = stairs-by 0 n512r12 checkStarts0 checkBits0 refl refl check-starts-right0 check-bits-right0 (omega arith) refl
 
 pub tables1 : Tables 1 checkStarts1 checkBits1
-unfolding checksOf sizeN checkStarts1 each
+unfolding checksBy sizeN checkStarts1 each
 tables1 = stairs-by 1 n576r23 checkStarts1 checkBits1 refl refl check-starts-right1 check-bits-right1 (omega arith) refl
 
 pub tables2 : Tables 2 checkStarts2 checkBits2
-unfolding checksOf sizeN checkStarts2 each
+unfolding checksBy sizeN checkStarts2 each
 tables2 = stairs-by 2 n512r34 checkStarts2 checkBits2 refl refl check-starts-right2 check-bits-right2 (omega arith) refl
 
 -- every number above 2 reads as code 3
 pub tables3 : (n : ℕ) → Tables (suc (suc (suc n))) checkStart checkBits
-unfolding checksOf sizeN checkStart each
+unfolding checksBy sizeN checkStart each
 tables3 n = tables-by (suc (suc (suc n))) code174.checks checkStart checkBits refl check-start laid flat 83 many refl
 
-pub all-short : (code : ℕ) → Short (checksOf code)
+pub all-short : (code : ℕ) → Short (checksBy code)
 all-short zero = tables0 .short
 all-short (suc zero) = tables1 .short
 all-short (suc (suc zero)) = tables2 .short
@@ -101,17 +100,17 @@ all-short (suc (suc (suc n))) = tables3 n .short
 -- ---- what the line of a check asks, and what it gives
 
 module _ {code : ℕ} {starts positions : List ℕ} (t : Tables code starts positions) (c : ℕ) (word : Word) where
-  pub asks : length word ≡ sizeN code → c < length (checksOf code) → (m : ℕ) → 256 ≤ m
+  pub asks : length word ≡ sizeN code → c < length (checksBy code) → (m : ℕ) → 256 ≤ m
       → FlatChecks starts positions (length word) × ((c + 1 < length starts) × (length (checkLine (rowsOf starts positions) word c) ≤ m))
   asks n h m room =
-      (rw n (t .flat), (omega (arith, t .many), rw (t .rows) (omega (arith, check-short (checksOf code) word (t .short) c))))
+      (rw n (t .flat), (omega (arith, t .many), rw (t .rows) (omega (arith, check-short (checksBy code) word (t .short) c))))
 
   pub gives : (k : ℕ) → k ≡ code → {out after : List ℕ} {r : ℕ} → Written out 0 (checkLine (rowsOf starts positions) word c) after r
-      → Written out 0 (checkLine (checksOf k) word c) after r
-  gives k e {out} {after} {r} w = subst (λ (cs : Checks). Written out 0 (checkLine cs word c) after r) (t .rows ∙ ap checksOf (sym e)) w
+      → Written out 0 (checkLine (checksBy k) word c) after r
+  gives k e {out} {after} {r} w = subst (λ (cs : Checks). Written out 0 (checkLine cs word c) after r) (t .rows ∙ ap checksBy (sym e)) w
 
 -- the line of a reason, once it is known which one it is
 pub line-of : (code : ℕ) (word : Word) (reason known : Reason) → reason ≡ known → {out after : List ℕ} {r : ℕ}
-    → Written out 0 (reasonLine (checksOf code) word known) after r
-    → (Written out 0 (reasonLine (checksOf code) word reason) after r) × (r ≤ 256)
-line-of code word reason known e w = rw e (w, omega (arith, w .end, reason-short (checksOf code) word (all-short code) known))
+    → Written out 0 (reasonLine (checksBy code) word known) after r
+    → (Written out 0 (reasonLine (checksBy code) word reason) after r) × (r ≤ 256)
+line-of code word reason known e w = rw e (w, omega (arith, w .end, reason-short (checksBy code) word (all-short code) known))

@@ -13,8 +13,7 @@ ghost use Prim.Native.Nat.{_+_, _<_, _≤_};
 ghost use lib.ListN.{length};
 ghost use Rattle.tanner.specs.Flat.{Below, FlatChecks, rowsOf};
 ghost use Rattle.text.specs.Written.{Written};
-ghost use Rattle.batch.specs.Codes.{sizeN};
-ghost use Rattle.first_reason.specs.Reasons.{checksOf};
+ghost use Rattle.numbered.specs.Codes.{sizeN, checksBy};
 ghost use Rattle.reason_text.specs.Lines.{nanLine, pairText, entries, checkLine, checksumLine, reasonLine, Named};
 
 fn nan_line(out: &mut [u8], p: u16) -> usize
@@ -70,9 +69,9 @@ fn check_over(out: &mut [u8], starts: &[u16], flat: &[u16], c: u16, word: &[u8])
 fn check_line(out: &mut [u8], code: u32, c: u16, word: &[u8]) -> usize
     requires { ⌜ code < 4 ⌝ }
     requires { ⌜ length (now word) ≡ sizeN code ⌝ }
-    requires { ⌜ c < length (checksOf code) ⌝ }
+    requires { ⌜ c < length (checksBy code) ⌝ }
     requires { ⌜ 256 ≤ length (now out) ⌝ }
-    ensures { λ r. ⌜ Written (now (out .entry)) 0 (checkLine (checksOf code) (now (word .entry)) c) (now (out .exit)) r ⌝ }
+    ensures { λ r. ⌜ Written (now (out .entry)) 0 (checkLine (checksBy code) (now (word .entry)) c) (now (out .exit)) r ⌝ }
 {
     if code == 0 {
         return check_over(out, &N512R12_CHECK_STARTS, &N512R12_CHECK_BITS, c, word);
@@ -101,9 +100,9 @@ fn checksum_line(out: &mut [u8], carried: u16, computed: u16) -> usize
 pub fn reason_line(out: &mut [u8], code: u32, reason: Reason, word: &[u8]) -> usize
     requires { ⌜ code < 4 ⌝ }
     requires { ⌜ length (now word) ≡ sizeN code ⌝ }
-    requires { ⌜ Named (checksOf code) reason ⌝ }
+    requires { ⌜ Named (checksBy code) reason ⌝ }
     requires { ⌜ 256 ≤ length (now out) ⌝ }
-    ensures { λ r. ⌜ Written (now (out .entry)) 0 (reasonLine (checksOf code) (now (word .entry)) reason) (now (out .exit)) r ⌝ }
+    ensures { λ r. ⌜ Written (now (out .entry)) 0 (reasonLine (checksBy code) (now (word .entry)) reason) (now (out .exit)) r ⌝ }
     ensures { λ r. ⌜ r ≤ 256 ⌝ }
 {
     match reason {

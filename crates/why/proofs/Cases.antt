@@ -20,7 +20,8 @@ use Rattle.clean.specs.Clean.{checksumRight}
 use Rattle.text.specs.Text.{leading, decimal, hexDigit, field, refusalLine}
 use Rattle.batch_input.specs.Input.{u32sFrom, floatOf, pairNumbers, valuesOf, malformed}
 use Rattle.first_reason.specs.declared.Reason.the-variants.{Nan, Check, Checksum}
-use Rattle.first_reason.specs.Reasons.{checksOf, firstNan, checksumOr, reasonFor}
+use Rattle.numbered.specs.Codes.{checksBy}
+use Rattle.first_reason.specs.Reasons.{firstNan, checksumOr, reasonFor}
 use Rattle.reason.specs.Under.{reasonUnder}
 use Rattle.reason_text.specs.Lines.{nanLine, pairText, entry, entries, checkLine, checksumLine, cleanLine, reasonLine}
 use Rattle.why.specs.Why.{frameLine, whyOf}
@@ -56,7 +57,7 @@ asking place =
 -- its frame is clean
 sample : whyOf (asking 0) ≡ 99 ∷ 108 ∷ 101 ∷ 97 ∷ 110 ∷ 10 ∷ []
 unfolding asking joined whyOf malformed pairNumbers valuesOf floatOf u32sFrom sizeN sizeK refusalsOf pairRefusals ruleNotOfCode pairsOf frameOf
-    frameLine cleanLine reasonUnder reasonFor firstNan isNan ofBits ofFields checksOf checks rowsOfSeven nm numRows firstBy parity count
+    frameLine cleanLine reasonUnder reasonFor firstNan isNan ofBits ofFields checksBy checks rowsOfSeven nm numRows firstBy parity count
     checksumOr checksumRight lowBits qex divide bringDown numberAfter decodeBy chosen chosenFrom initialWord roundWords decide odd le lt eq
 sample = refl
 

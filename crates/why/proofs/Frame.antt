@@ -13,21 +13,21 @@ use Rattle.batch_input.specs.Input.{codeOf, ruleOf, limitOf, scaleOf}
 use Rattle.batch_input.specs.Read.{HeaderOf}
 use Rattle.batch_input.specs.declared.Header.{Header}
 use Rattle.first_reason.specs.declared.Reason.{Reason}
-use Rattle.first_reason.specs.Reasons.{checksOf}
+use Rattle.numbered.specs.Codes.{checksBy}
 use Rattle.reason.specs.Under.{reasonUnder}
 use Rattle.first_reason.specs.Holds.{Holds, byNan, byCheck, byChecksum, isClean}
 use Rattle.reason.proofs.Under.{under-holds}
 use Rattle.reason_text.specs.Lines.{reasonLine, Named}
 use Rattle.why.specs.Why.{frameLine}
 
-named-by : (code : ℕ) (values : List Float) (word : Word) {r : Reason} → Holds code values word r → Named (checksOf code) r
+named-by : (code : ℕ) (values : List Float) (word : Word) {r : Reason} → Holds code values word r → Named (checksBy code) r
 named-by code values word (byNan p l) = tt
 named-by code values word (byCheck c all (counted d h n below)) = h
 named-by code values word (byChecksum a b all s c p q n) = tt
 named-by code values word (isClean h) = tt
 
 pub reason-named : (code rule : ℕ) (scale : Float) (values : List Float) (limit : ℕ) {r : Reason} → r ≡ reasonUnder code rule scale values limit
-    → Named (checksOf code) r
+    → Named (checksBy code) r
 reason-named code rule scale values limit e =
     rw e (named-by code values (chosen (decodeOf code rule scale values) limit) (under-holds code rule scale values limit))
 
@@ -35,6 +35,6 @@ reason-named code rule scale values limit e =
 pub frame-line : (s : List ℕ) (h : Header) → HeaderOf s h → (all : List Float) (pairs : List Pair) (part values : List Float) → part ≡ values
     → {word : Word} {r : Reason}
     → word ≡ chosen (decodeOf (h .code) (h .rule) (h .scale) part) (h .limit) → r ≡ reasonUnder (h .code) (h .rule) (h .scale) part (h .limit)
-    → reasonLine (checksOf (h .code)) word r ≡ frameLine (batch (codeOf s) (ruleOf s) (limitOf s) (scaleOf s) all pairs (lent [] [] [] [] [])) values
+    → reasonLine (checksBy (h .code)) word r ≡ frameLine (batch (codeOf s) (ruleOf s) (limitOf s) (scaleOf s) all pairs (lent [] [] [] [] [])) values
 unfolding frameLine
 frame-line s h head all pairs part values e w f = rw (w, f, e, head .code, head .rule, head .scale, head .limit)

@@ -12,7 +12,7 @@ use Rattle.tanner.specs.Checks.{Word, Checks}
 use Rattle.text.specs.Text.{field, refusalLine, printed}
 use Rattle.first_reason.specs.declared.Reason.{Reason}
 use Rattle.first_reason.specs.declared.Reason.the-variants.{Nan, Check, Checksum, Clean}
-use Rattle.first_reason.specs.Reasons.{checksOf}
+use Rattle.numbered.specs.Codes.{checksBy}
 use Rattle.reason.specs.Under.{reasonUnder}
 use Rattle.reason.proofs.Under.{under-holds, clean-exactly}
 use Rattle.reason_text.specs.Lines.{nanLine, checkLine, checksumLine, cleanLine, reasonLine}
@@ -42,7 +42,7 @@ module _ (s : List ℕ) where
   abbrev reasonAsked : Reason
   reasonAsked = let b = batchAsked s in reasonUnder (b .code) (b .rule) (b .scale) (valuesAsked s) (b .limit)
 
-  line-is : Accepted s → whyOf s ≡ reasonLine (checksOf (batchAsked s .code)) (wordAsked s) reasonAsked
+  line-is : Accepted s → whyOf s ≡ reasonLine (checksBy (batchAsked s .code)) (wordAsked s) reasonAsked
   unfolding whyOf frameLine
   line-is v = rw (judged-accepted (whyRefusals s) (frameLine (batchAsked s) (valuesAsked s)) v)
 
@@ -59,7 +59,7 @@ module _ (s : List ℕ) where
   unfolding whyOf
   only-by (accepted tt) v e =
       let b = batchAsked s in
-      let found = clean-alone (checksOf (b .code)) (wordAsked s) reasonAsked (sym (line-is v) ∙ e) in
+      let found = clean-alone (checksBy (b .code)) (wordAsked s) reasonAsked (sym (line-is v) ∙ e) in
       (v, clean-exactly (b .code) (b .rule) (b .scale) (valuesAsked s) (b .limit) .only found)
   only-by (refused k) v e = absurd (refused-differs k (sym (ap printed (judged-refused (whyRefusals s) (frameLine (batchAsked s) (valuesAsked s)) k v)) ∙ e))
 
@@ -69,4 +69,4 @@ module _ (s : List ℕ) where
       each : Accepted s → cleanAsked s ≡ true → whyOf s ≡ cleanLine
       each v h =
           let b = batchAsked s in
-          line-is v ∙ ap (reasonLine (checksOf (b .code)) (wordAsked s)) (clean-exactly (b .code) (b .rule) (b .scale) (valuesAsked s) (b .limit) .each h)
+          line-is v ∙ ap (reasonLine (checksBy (b .code)) (wordAsked s)) (clean-exactly (b .code) (b .rule) (b .scale) (valuesAsked s) (b .limit) .each h)

@@ -12,7 +12,7 @@ use Rattle.batch.specs.Calls.{Batch, frameDecode}
 use Rattle.clean_frames.specs.Limits.{cleanUnder}
 use Rattle.batch_input.specs.Handed.{batchIn}
 use Rattle.first_reason.specs.declared.Reason.{Reason}
-use Rattle.first_reason.specs.Reasons.{checksOf}
+use Rattle.numbered.specs.Codes.{checksBy}
 use Rattle.first_reason.specs.Holds.{Holds}
 use Rattle.reason_text.specs.Lines.{reasonLine, cleanLine}
 use Rattle.why.specs.Why.{placeOf, batchOf, whyRefusals, frameAt, whyOf}
@@ -38,7 +38,7 @@ cleanAsked s = let b = batchAsked s in cleanUnder (b .code) (b .rule) (b .scale)
 -- the line that is printed is that of a reason that holds, no earlier one holding
 pub record Explains (s : List ℕ) : Type 0 where
   pub reason : Reason
-  pub line : whyOf s ≡ reasonLine (checksOf (batchAsked s .code)) (wordAsked s) reason
+  pub line : whyOf s ≡ reasonLine (checksBy (batchAsked s .code)) (wordAsked s) reason
   pub holds : Holds (batchAsked s .code) (valuesAsked s) (wordAsked s) reason
 
 -- `clean` is printed exactly where an accepted input asks about a clean frame

@@ -11,7 +11,7 @@ use Rattle.rounds.specs.Rounds.{chosen}
 use Rattle.batch.specs.Calls.{Batch, refusals, frames, frameDecode}
 use Rattle.batch_input.specs.Input.{u16At, pairCount}
 use Rattle.batch_input.specs.Handed.{batchIn, inputRefusals}
-use Rattle.first_reason.specs.Reasons.{checksOf}
+use Rattle.numbered.specs.Codes.{checksBy}
 use Rattle.reason.specs.Under.{reasonUnder}
 use Rattle.reason_text.specs.Lines.{reasonLine}
 
@@ -43,7 +43,7 @@ askedRefusals place s = refusals (batchIn s) ++ placeRefusal place (pairCount s)
 -- the line of the frame at a place: of its values, and of the word that its decode chooses
 unfoldable pub frameLine : Batch → List Float → List ℕ
 frameLine b values =
-    reasonLine (checksOf (b .code)) (chosen (frameDecode b values) (b .limit)) (reasonUnder (b .code) (b .rule) (b .scale) values (b .limit))
+    reasonLine (checksBy (b .code)) (chosen (frameDecode b values) (b .limit)) (reasonUnder (b .code) (b .rule) (b .scale) values (b .limit))
 
 -- the values of the frame asked about
 abbrev pub frameAt : Batch → ℕ → List Float

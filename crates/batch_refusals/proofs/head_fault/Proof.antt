@@ -5,7 +5,7 @@ use borrow.Author.Tests.{lt-ltb, le-ltb, eq-eqb, ne-eqb}
 use native.Mathlib.Omega.{arith}
 use Prim.Native.Nat.{ℕ, _*_}
 use lib.Dec.{eqb, ltb}
-use Rattle.batch_refusals.specs.Codes.{sizeK}
+use Rattle.numbered.specs.Codes.{sizeK}
 use Rattle.batch_refusals.specs.Refusals.{ruleNotOfCode}
 use Rattle.batch_refusals.proofs.Sizes.{product-small}
 use borrow.Author.Needs.{needs}

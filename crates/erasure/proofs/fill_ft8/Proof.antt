@@ -3,6 +3,7 @@ use native.Mathlib.Omega.{arith}
 use Rattle.ldpc.proofs.Arrays.{checkStart, checkBits}
 use Rattle.ldpc.proofs.Graph.{flat, laid}
 use Rattle.erasure.proofs.Answers.{at-checks}
+use Rattle.numbered.specs.Codes.{sizeN, checksBy}
 use Rattle.erasure.specs.Calls.{erasureRefusals}
 use borrow.Author.Needs.{needs}
 use Rattle.erasure.proofs.fill_ft8.Statement.{statement}
@@ -25,7 +26,7 @@ same-length-2 : tie.Need-same-length-2
 same-length-2 c = search needs
 
 returns : tie.Need-returns
-unfolding checkStart checkBits
+unfolding sizeN checksBy checkStart checkBits
 returns c =
     let done = c .before .before .before .before in
     let a = done .before .before .before .before .before .before .before .args in

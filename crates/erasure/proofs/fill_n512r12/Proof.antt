@@ -4,6 +4,7 @@ use Rattle.construction.specs.Codes.{n512r12}
 use Rattle.staircase.proofs.N512R12.{checkStarts0, checkBits0, check-starts-right0, check-bits-right0}
 use Rattle.ldpc_codes.proofs.Laid.{laid-flat}
 use Rattle.erasure.proofs.Answers.{staircase-rows, at-checks}
+use Rattle.numbered.specs.Codes.{sizeN, checksBy}
 use Rattle.erasure.specs.Calls.{erasureRefusals}
 use borrow.Author.Needs.{needs}
 use Rattle.erasure.proofs.fill_n512r12.Statement.{statement}
@@ -26,7 +27,7 @@ same-length-2 : tie.Need-same-length-2
 same-length-2 c = search needs
 
 returns : tie.Need-returns
-unfolding checkStarts0 checkBits0
+unfolding sizeN checksBy checkStarts0 checkBits0
 returns c =
     let done = c .before .before .before .before in
     let a = done .before .before .before .before .before .before .before .args in

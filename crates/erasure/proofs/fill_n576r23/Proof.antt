@@ -4,6 +4,7 @@ use Rattle.construction.specs.Codes.{n576r23}
 use Rattle.staircase.proofs.N576R23.{checkStarts1, checkBits1, check-starts-right1, check-bits-right1}
 use Rattle.ldpc_codes.proofs.Laid.{laid-flat}
 use Rattle.erasure.proofs.Answers.{staircase-rows, at-checks}
+use Rattle.numbered.specs.Codes.{sizeN, checksBy}
 use Rattle.erasure.specs.Calls.{erasureRefusals}
 use borrow.Author.Needs.{needs}
 use Rattle.erasure.proofs.fill_n576r23.Statement.{statement}
@@ -26,7 +27,7 @@ same-length-2 : tie.Need-same-length-2
 same-length-2 c = search needs
 
 returns : tie.Need-returns
-unfolding checkStarts1 checkBits1
+unfolding sizeN checksBy checkStarts1 checkBits1
 returns c =
     let done = c .before .before .before .before in
     let a = done .before .before .before .before .before .before .before .args in

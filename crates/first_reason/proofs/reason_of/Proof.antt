@@ -7,7 +7,7 @@ use lib.ListN.{length, take}
 use lib.Seq.{length-take-le}
 use Rattle.tanner.specs.Checks.{none}
 use Rattle.tanner.specs.Found.{firstOf}
-use Rattle.batch_refusals.specs.Codes.{sizeK}
+use Rattle.numbered.specs.Codes.{sizeK}
 use Rattle.first_reason.specs.Reasons.{firstNan, checksumOr}
 use Rattle.first_reason.specs.declared.FirstNan.the-variants.{Absent}
 use borrow.Author.Needs.{needs}

@@ -5,7 +5,7 @@ use native.Mathlib.Omega.{arith}
 use lib.ListN.{length}
 use Rattle.first_reason.specs.declared.Reason.{Reason}
 use Rattle.first_reason.specs.declared.Reason.the-variants.{Nan, Check, Checksum, Clean}
-use Rattle.first_reason.specs.Reasons.{checksOf}
+use Rattle.numbered.specs.Codes.{checksBy}
 use Rattle.reason_text.specs.Lines.{cleanLine, reasonLine, Named}
 use Rattle.reason_text.proofs.Lengths.{reason-short}
 use Rattle.reason_text.proofs.Tables.{all-short, line-of}
@@ -19,8 +19,8 @@ abbrev entry : tie.After-shared-slice-known → tie.Start
 entry c = c .before .before
 
 -- the line of each reason has room
-short : (z : tie.Start) (r : Reason) → length (reasonLine (checksOf (z .args .code)) (z .args .word .now) r) ≤ length (z .args .out .now)
-short z r = let a = z .args in omega (arith, reason-short (checksOf (a .code)) (a .word .now) (all-short (a .code)) r, z .pre .1 .1 .1)
+short : (z : tie.Start) (r : Reason) → length (reasonLine (checksBy (z .args .code)) (z .args .word .now) r) ≤ length (z .args .out .now)
+short z r = let a = z .args in omega (arith, reason-short (checksBy (a .code)) (a .word .now) (all-short (a .code)) r, z .pre .1 .1 .1)
 
 -- ---- the needs
 
@@ -37,7 +37,7 @@ check-line-requires : tie.Need-check-line-requires
 check-line-requires c κs =
     let told = c .before .before in
     let z = entry (told .before .before) in
-    (z .pre .0, (z .pre .1 .0, (subst (Named (checksOf (z .args .code))) (told .reason2 .given .1) (z .pre .1 .1 .0), z .pre .1 .1 .1)))
+    (z .pre .0, (z .pre .1 .0, (subst (Named (checksBy (z .args .code))) (told .reason2 .given .1) (z .pre .1 .1 .0), z .pre .1 .1 .1)))
 
 enum-known-reason-3 : tie.Need-enum-known-reason-3
 enum-known-reason-3 c = search needs

@@ -1,0 +1,1 @@
+// The four codes by number: definitions, and no code.
