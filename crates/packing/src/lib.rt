@@ -1,4 +1,5 @@
-// Words of bits, one bit a byte, packed eight a byte, most significant first, and taken out again: a (174,91) message has 91 bits and 12 bytes, a word 174 and 22.
+// Words of bits, one bit a byte, packed eight a byte, most significant first, and taken out again: a (174,91) message has 91 bits and 12 bytes,
+// a word 174 and 22.
 ghost use mathlib.Core.Path.{_≡_};
 ghost use Prim.Native.Nat.{_<_, _≤_, _/_};
 ghost use lib.ListN.{length, getD};
@@ -68,7 +69,8 @@ fn write_bits(bytes: &[u8], word: &mut [u8])
 pub fn unpack_bits(bytes: &[u8], word: &mut [u8]) -> Status
     ensures { λ r. ⌜ statusOf r ≡ judged (unpackRefusals (now (bytes .entry)) (now (word .entry))) tt ⌝ }
     ensures { λ _. ⌜ now (word .exit)
-        ≡ kept (unpackRefusals (now (bytes .entry)) (now (word .entry))) (now (word .entry)) (unpackedWord (length (now (word .entry))) (now (bytes .entry))) ⌝ }
+        ≡ kept (unpackRefusals (now (bytes .entry)) (now (word .entry))) (now (word .entry))
+        (unpackedWord (length (now (word .entry))) (now (bytes .entry))) ⌝ }
 {
     if bytes.len() < bytes_for(word.len()) {
         return Status::Refused(Refusal::InputLength);

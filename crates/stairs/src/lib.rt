@@ -137,7 +137,8 @@ fn fill_part(width: usize, k: usize, first: usize, n: usize, taps: &[u16], codew
     fill_rows(width, k, first, n, taps, codeword)
 }
 
-// Four parts of n rows, one after another. Where each number is a literal of the caller's the compiler takes this apart into the single XORs, and reads no table.
+// Four parts of n rows, one after another. Where each number is a literal of the caller's the compiler takes this apart into the single XORs,
+// and reads no table.
 pub fn fill_four(width: usize, k: usize, first: usize, n: usize, taps: &[u16], codeword: &mut [u8])
     requires { ⌜ Part k width first (n + n + n + n) (length (now codeword)) (now taps) ⌝ }
     ensures { λ _. ⌜ now (codeword .exit) ≡ filled (stairRows k width (now (taps .entry)) first (n + n + n + n)) (k + first) (now (codeword .entry)) ⌝ }

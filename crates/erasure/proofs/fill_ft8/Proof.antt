@@ -30,7 +30,9 @@ unfolding sizeN checksBy checkStart checkBits
 returns c =
     let done = c .before .before .before .before in
     let a = done .before .before .before .before .before .before .before .args in
-    at-checks _ _ laid (erasureRefusals 3 (a .word .now) (a .places .now)) (a .word .now) (a .places .now) (done .fill-over .ensures)
+    let w = a .word .now in
+    let l = a .places .now in
+    at-checks _ _ laid (erasureRefusals 3 w l) w l (done .fill-over .ensures)
 
 pub fill-ft8-spec : {M : Type 1} → statement M
 fill-ft8-spec =

@@ -31,7 +31,9 @@ unfolding sizeN checksBy checkStarts0 checkBits0
 returns c =
     let done = c .before .before .before .before in
     let a = done .before .before .before .before .before .before .before .args in
-    at-checks _ _ (staircase-rows n512r12 checkStarts0 checkBits0 check-starts-right0 check-bits-right0) (erasureRefusals 0 (a .word .now) (a .places .now)) (a .word .now) (a .places .now) (done .fill-over .ensures)
+    let w = a .word .now in
+    let l = a .places .now in
+    at-checks _ _ (staircase-rows n512r12 checkStarts0 checkBits0 check-starts-right0 check-bits-right0) (erasureRefusals 0 w l) w l (done .fill-over .ensures)
 
 pub fill-n512r12-spec : {M : Type 1} → statement M
 fill-n512r12-spec =

@@ -31,7 +31,9 @@ unfolding sizeN checksBy checkStarts2 checkBits2
 returns c =
     let done = c .before .before .before .before in
     let a = done .before .before .before .before .before .before .before .args in
-    at-checks _ _ (staircase-rows n512r34 checkStarts2 checkBits2 check-starts-right2 check-bits-right2) (erasureRefusals 2 (a .word .now) (a .places .now)) (a .word .now) (a .places .now) (done .fill-over .ensures)
+    let w = a .word .now in
+    let l = a .places .now in
+    at-checks _ _ (staircase-rows n512r34 checkStarts2 checkBits2 check-starts-right2 check-bits-right2) (erasureRefusals 2 w l) w l (done .fill-over .ensures)
 
 pub fill-n512r34-spec : {M : Type 1} → statement M
 fill-n512r34-spec =

@@ -31,7 +31,9 @@ unfolding sizeN checksBy checkStarts1 checkBits1
 returns c =
     let done = c .before .before .before .before in
     let a = done .before .before .before .before .before .before .before .args in
-    at-checks _ _ (staircase-rows n576r23 checkStarts1 checkBits1 check-starts-right1 check-bits-right1) (erasureRefusals 1 (a .word .now) (a .places .now)) (a .word .now) (a .places .now) (done .fill-over .ensures)
+    let w = a .word .now in
+    let l = a .places .now in
+    at-checks _ _ (staircase-rows n576r23 checkStarts1 checkBits1 check-starts-right1 check-bits-right1) (erasureRefusals 1 w l) w l (done .fill-over .ensures)
 
 pub fill-n576r23-spec : {M : Type 1} → statement M
 fill-n576r23-spec =

@@ -24,13 +24,15 @@ first-fits : (first n : ℕ) → first ≤ first + n
 first-fits first n = omega arith
 
 -- in a turn: the row lies within the table
-row : (c : tie.In-loop Inv-loop μ-loop) → let s = c .before .before .before .before .before .before in c .before .loop .a + s .args .width ≤ length (s .args .taps .now)
+row : (c : tie.In-loop Inv-loop μ-loop) → let s = c .before .before .before .before .before .before in
+    c .before .loop .a + s .args .width ≤ length (s .args .taps .now)
 row c =
     let s = c .before .before .before .before .before .before in
     row-fits (s .args .width) (s .args .first + s .args .n) (c .before .loop .i) _ _ (c .loop-test .taken) (c .before .loop .inv .1) (s .pre .size)
 
 -- and the codeword has room for its parity bit
-inside : (c : tie.In-loop Inv-loop μ-loop) → let s = c .before .before .before .before .before .before in s .args .k + c .before .loop .i < length (c .before .loop .codeword)
+inside : (c : tie.In-loop Inv-loop μ-loop) → let s = c .before .before .before .before .before .before in
+    s .args .k + c .before .loop .i < length (c .before .loop .codeword)
 inside c =
     let s = c .before .before .before .before .before .before in
     omega (arith, s .pre .room, c .before .loop .inv .2, c .loop-test .taken)
