@@ -3,7 +3,7 @@ use mathlib.Core.Path.{_≡_, refl}
 use mathlib.Core.Bool.{true, false}
 use mathlib.Core.List.{map}
 use lib.Ieee.{ofBits, neg, mul, ofInt}
-use Rattle.eighths.specs.Values.{valueOf, wholeEighths, minusZero, passes, eightTimes, byteOf}
+use Rattle.soft_bytes.specs.Values.{valueOf, wholeEighths, minusZero, passes, eightTimes, byteOf}
 use Rattle.eighths.specs.Calls.{valuesOf, bytesOf}
 use Rattle.eighths.specs.Cases.{bytes, plain, negated, tested, passing}
 

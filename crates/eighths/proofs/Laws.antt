@@ -18,11 +18,11 @@ use mir.Syntax.{w8}
 use mir.Val.{SFits}
 use borrow.Author.Tests.{eqb-false, ne-eqb, not-false}
 use Rattle.refusal.specs.Outcome.{Outcome, accepted, refused}
-use Rattle.eighths.specs.Values.{zero32, eighth32, isZero, isLeast, timesEighth, valueOf, wholeEighths, minusZero, passes, signed, byteOf}
+use Rattle.soft_bytes.specs.Values.{zero32, eighth32, isZero, isLeast, timesEighth, valueOf, wholeEighths, minusZero, passes, signed, byteOf}
 use Rattle.eighths.specs.Calls.{some, bytesRefusals, valuesRefusals, valuesOf, bytesOf}
 use Rattle.eighths.specs.Laws.{Each, more, I8s, F32s, Accepted, BytesUndone, ValuesUndone, ByteUnrounded, ValueUnrounded}
-use Rattle.eighths.proofs.Value.{same-test, Eighths, eighths-whole, product-exact, sign, count, passing, swap, to-whole}
-use Rattle.eighths.proofs.Byte.{turned}
+use Rattle.soft_bytes.proofs.Value.{same-test, Eighths, eighths-whole, product-exact, sign, count, passing, swap, to-whole}
+use Rattle.soft_bytes.proofs.Byte.{turned}
 use Rattle.eighths.proofs.Lists.{neither}
 use Rattle.eighths.proofs.Judged.{tests, written}
 

@@ -1,5 +1,3 @@
-pub mod Value
-pub mod Byte
 pub mod Lists
 pub mod Judged
 pub mod Laws

@@ -9,7 +9,7 @@ use lib.Ieee.{Float, nan}
 use lib.ListN.{length, take, drop, getD, set, drop-of-length-le}
 use lib.Seq.{take-suc, take-suc-set, drop-cons, take-all}
 use borrow.Author.Tests.{not-false}
-use Rattle.eighths.specs.Values.{passes}
+use Rattle.soft_bytes.specs.Values.{passes}
 use Rattle.eighths.specs.Calls.{some}
 
 -- ---- a test of each entry

@@ -6,7 +6,7 @@ use lib.IntN.{ℤ}
 use lib.Ieee.{Float}
 use lib.ListN.{length}
 use Rattle.refusal.specs.Outcome.{Condition, _when_}
-use Rattle.eighths.specs.Values.{isLeast, valueOf, passes, byteOf}
+use Rattle.soft_bytes.specs.Values.{isLeast, valueOf, passes, byteOf}
 
 -- whether the test holds of some entry
 unfoldable pub some : {A : Type 0} → (A → Bool) → List A → Bool

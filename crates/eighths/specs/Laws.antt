@@ -10,7 +10,7 @@ use lib.Ieee.Exact.{HasValue}
 use mir.Syntax.{w8}
 use mir.Val.{SFits}
 use Rattle.refusal.specs.Outcome.{Outcome, accepted, Condition, judged}
-use Rattle.eighths.specs.Values.{eight32, timesEighth}
+use Rattle.soft_bytes.specs.Values.{eight32, timesEighth}
 use Rattle.eighths.specs.Calls.{bytesRefusals, valuesRefusals, valuesOf, bytesOf}
 
 -- every entry is such a one

@@ -1,4 +1,3 @@
-pub mod Values
 pub mod Calls
 pub mod Laws
 pub mod Cases

@@ -3,7 +3,7 @@ use mathlib.Core.Path.{sym, _∙_}
 use mathlib.Core.Bool.{not}
 use lib.ListN.{length}
 use borrow.Author.Needs.{needs}
-use Rattle.eighths.specs.Values.{passes}
+use Rattle.soft_bytes.specs.Values.{passes}
 use Rattle.eighths.specs.Calls.{some, valuesRefusals, bytesOf}
 use Rattle.eighths.proofs.Judged.{lengths-differ, test-holds, written}
 use Rattle.eighths.proofs.bytes_of_values.Statement.{statement}

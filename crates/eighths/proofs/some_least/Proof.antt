@@ -5,9 +5,9 @@ use native.Mathlib.Omega.{arith}
 use lib.IntN.{pos}
 use lib.ListN.{length, drop, getD}
 use borrow.Author.Needs.{needs}
-use Rattle.eighths.specs.Values.{isLeast}
+use Rattle.soft_bytes.specs.Values.{isLeast}
 use Rattle.eighths.specs.Calls.{some}
-use Rattle.eighths.proofs.Byte.{least-bits, more-bits}
+use Rattle.soft_bytes.proofs.Byte.{least-bits, more-bits}
 use Rattle.eighths.proofs.Lists.{some-more, some-found, some-none}
 use Rattle.eighths.proofs.some_least.Statement.{statement}
 use Rattle.eighths.proofs.some_least.Tie as tie

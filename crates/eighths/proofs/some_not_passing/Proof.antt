@@ -6,7 +6,7 @@ use native.Mathlib.Omega.{arith}
 use lib.Ieee.{nan}
 use lib.ListN.{length, drop}
 use borrow.Author.Needs.{needs}
-use Rattle.eighths.specs.Values.{passes}
+use Rattle.soft_bytes.specs.Values.{passes}
 use Rattle.eighths.specs.Calls.{some}
 use Rattle.eighths.proofs.Lists.{some-more, some-found, some-none}
 use Rattle.eighths.proofs.some_not_passing.Statement.{statement}

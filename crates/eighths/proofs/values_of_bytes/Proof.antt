@@ -2,7 +2,7 @@
 use mathlib.Core.Path.{sym, _∙_}
 use lib.ListN.{length}
 use borrow.Author.Needs.{needs}
-use Rattle.eighths.specs.Values.{isLeast}
+use Rattle.soft_bytes.specs.Values.{isLeast}
 use Rattle.eighths.specs.Calls.{some, bytesRefusals, valuesOf}
 use Rattle.eighths.proofs.Judged.{lengths-differ, test-holds, written}
 use Rattle.eighths.proofs.values_of_bytes.Statement.{statement}

@@ -9,9 +9,9 @@ use mir.Syntax.{w8}
 use mir.Val.{ofZ, toZ}
 use mir.ValLaws.{toZ-ofZ}
 use borrow.Author.Needs.{needs}
-use Rattle.eighths.specs.Values.{byteOf}
+use Rattle.soft_bytes.specs.Values.{byteOf}
 use Rattle.eighths.specs.Calls.{bytesOf}
-use Rattle.eighths.proofs.Byte.{byte-fits}
+use Rattle.soft_bytes.proofs.Byte.{byte-fits}
 use Rattle.eighths.proofs.Lists.{pass-at, fill-more, fill-done}
 use Rattle.eighths.proofs.write_bytes.Statement.{statement}
 use Rattle.eighths.proofs.write_bytes.Tie as tie

@@ -7,7 +7,7 @@ use mir.Syntax.{w8}
 use mir.ValLaws.{toZ-ofZ}
 use lib.ListN.{length, take, length-set}
 use borrow.Author.Needs.{needs}
-use Rattle.eighths.specs.Values.{valueOf}
+use Rattle.soft_bytes.specs.Values.{valueOf}
 use Rattle.eighths.specs.Calls.{valuesOf}
 use Rattle.eighths.proofs.Lists.{fill-more, fill-done}
 use Rattle.eighths.proofs.write_values.Statement.{statement}

@@ -1,14 +1,14 @@
--- `eighths::byte_of` meets its contract: eight times a value that passes is a whole number in an i8's range, and so is its negative. Assumes nothing.
+-- `soft_bytes::byte_of` meets its contract: eight times a value that passes is a whole number in an i8's range, and so is its negative. Assumes nothing.
 use mathlib.Core.Path.{sym, ap, _∙_, subst}
 use lib.IntN.{ℤ, pos, _-ℤ_}
 use mir.Syntax.{w8}
 use mir.Val.{SFits, ofZ, toZ}
 use mir.ValLaws.{toZ-ofZ}
-use Rattle.eighths.specs.Values.{eightTimes, byteOf}
-use Rattle.eighths.proofs.Value.{cast}
-use Rattle.eighths.proofs.Byte.{read-back, negative-is, negative-fits}
-use Rattle.eighths.proofs.byte_of.Statement.{statement}
-use Rattle.eighths.proofs.byte_of.Tie as tie
+use Rattle.soft_bytes.specs.Values.{eightTimes, byteOf}
+use Rattle.soft_bytes.proofs.Value.{cast}
+use Rattle.soft_bytes.proofs.Byte.{read-back, negative-is, negative-fits}
+use Rattle.soft_bytes.proofs.byte_of.Statement.{statement}
+use Rattle.soft_bytes.proofs.byte_of.Tie as tie
 
 float-to-int-n : tie.Need-float-to-int-n
 float-to-int-n c = cast (c .before .args .v) (c .before .pre) .0

@@ -1,9 +1,9 @@
--- `eighths::passes` meets its contract: the test of the value without its sign, once it is not -0.0. Assumes nothing.
+-- `soft_bytes::passes` meets its contract: the test of the value without its sign, once it is not -0.0. Assumes nothing.
 use mathlib.Core.Path.{sym, _∙_}
 use borrow.Author.Needs.{needs}
-use Rattle.eighths.proofs.Value.{passes-minus, passes-other, unsigned, positive-sign}
-use Rattle.eighths.proofs.passes.Statement.{statement}
-use Rattle.eighths.proofs.passes.Tie as tie
+use Rattle.soft_bytes.proofs.Value.{passes-minus, passes-other, unsigned, positive-sign}
+use Rattle.soft_bytes.proofs.passes.Statement.{statement}
+use Rattle.soft_bytes.proofs.passes.Tie as tie
 
 is-minus-zero-requires : tie.Need-is-minus-zero-requires
 is-minus-zero-requires c κs = search needs

@@ -9,8 +9,8 @@ use mir.Syntax.{w8}
 use mir.Val.{SFits, ofZ, toZ}
 use mir.ValLaws.{toZ-ofZ}
 use borrow.Author.Tests.{eq-eqb, ne-eqb}
-use Rattle.eighths.specs.Values.{eight32, isZero, isLeast, passes, signed, eightTimes, byteOf}
-use Rattle.eighths.proofs.Value.{sign, count, passing, eighths-whole, cast}
+use Rattle.soft_bytes.specs.Values.{eight32, isZero, isLeast, passes, signed, eightTimes, byteOf}
+use Rattle.soft_bytes.proofs.Value.{sign, count, passing, eighths-whole, cast}
 
 pub zero-bits : (b : ℤ) → SFits w8 b → ofZ w8 b ≡ 0 → isZero b ≡ true
 zero-bits (pos n) f e = eq-eqb n 0 e

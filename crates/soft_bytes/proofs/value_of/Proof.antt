@@ -1,12 +1,12 @@
--- `eighths::value_of` meets its contract, by definition once the byte is known to be zero or not. Assumes nothing.
+-- `soft_bytes::value_of` meets its contract, by definition once the byte is known to be zero or not. Assumes nothing.
 use mathlib.Core.Path.{refl}
 use mir.Syntax.{w8}
 use mir.ValLaws.{toZ-ofZ}
 use borrow.Author.Needs.{needs}
-use Rattle.eighths.specs.Values.{valueOf}
-use Rattle.eighths.proofs.Byte.{zero-bits, nonzero-bits}
-use Rattle.eighths.proofs.value_of.Statement.{statement}
-use Rattle.eighths.proofs.value_of.Tie as tie
+use Rattle.soft_bytes.specs.Values.{valueOf}
+use Rattle.soft_bytes.proofs.Byte.{zero-bits, nonzero-bits}
+use Rattle.soft_bytes.proofs.value_of.Statement.{statement}
+use Rattle.soft_bytes.proofs.value_of.Tie as tie
 
 returns : tie.Need-returns
 unfolding valueOf

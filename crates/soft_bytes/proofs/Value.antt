@@ -28,7 +28,7 @@ use lib.Ieee.Exact.{HasValue, round-exact}
 use lib.Ieee.Back.{round-whole, unsigned-back, positive-back, negative-back}
 use lib.Ieee.Scale.{round-same}
 use borrow.Author.Tests.{ltb-true, ltb-false, le-ltb}
-use Rattle.eighths.specs.Values.{zero32, eighth32, eight32, timesEighth, wholeEighths, minusZero, passes, signed, eightTimes}
+use Rattle.soft_bytes.specs.Values.{zero32, eighth32, eight32, timesEighth, wholeEighths, minusZero, passes, signed, eightTimes}
 
 pub same-test : (a b : Bool) → (T a → T b) → (T b → T a) → a ≡ b
 same-test true true p q = refl

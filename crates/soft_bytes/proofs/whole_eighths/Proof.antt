@@ -1,12 +1,12 @@
--- `eighths::whole_eighths` meets its contract: where eight times the value is whole, the cut finds it, and what is found is compared. Assumes nothing.
+-- `soft_bytes::whole_eighths` meets its contract: where eight times the value is whole, the cut finds it, and what is found is compared. Assumes nothing.
 use mathlib.Core.Path.{sym, subst}
 use Prim.Native.Nat.{_^_}
 use native.Mathlib.Omega.{arith}
 use lib.Dec.{T, le→leb}
 use lib.Ieee.{ofBits, neg, inFloat}
-use Rattle.eighths.proofs.Value.{too-low, too-high, too-many, found}
-use Rattle.eighths.proofs.whole_eighths.Statement.{statement}
-use Rattle.eighths.proofs.whole_eighths.Tie as tie
+use Rattle.soft_bytes.proofs.Value.{too-low, too-high, too-many, found}
+use Rattle.soft_bytes.proofs.whole_eighths.Statement.{statement}
+use Rattle.soft_bytes.proofs.whole_eighths.Tie as tie
 
 truncating-f32-to-u64-requires : tie.Need-truncating-f32-to-u64-requires
 unfolding ofBits neg
