@@ -3,7 +3,7 @@
 
     python3 tools/code_tables.py index              crates/cycle_index/src/tables.rt, whole
     python3 tools/code_tables.py constant CODE NAME one constant, as a tables.rt has it
-    python3 tools/code_tables.py list CODE NAME     one list of antt, as crates/staircase/proofs has it
+    python3 tools/code_tables.py list CODE NAME     one list of antt, as crates/CODE/proofs has it
     python3 tools/code_tables.py write FILE..       puts each constant and list that a file has already in again, as it is printed
     python3 tools/code_tables.py check              says which constant or list of the repository has other numbers
     python3 tools/code_tables.py code CODE          N, K, M, the generator's last state, how many relaxed picks and cycles, and
@@ -92,7 +92,7 @@ def ends(lists):
     return starts
 
 
-# the lists, with the constant that holds each; the index is crate cycle_index's, the others are staircase's
+# the lists, with the constant that holds each; the index is crate cycle_index's, the other constants are staircase's, and each code's lists its own crate's
 NAMES = {
     "rows": "ROWS",
     "checkStarts": "CHECK_STARTS",
@@ -155,7 +155,7 @@ def check(tables):
     """Compares what the repository has of these tables, found from this script's place; how many differ."""
     crates = os.path.join(os.path.dirname(os.path.abspath(__file__)), "..", "crates")
     wrong = 0
-    for folder in ("staircase/src", "staircase/proofs", "cycle_index/src"):
+    for folder in ["staircase/src"] + [code + "/proofs" for code in CODES] + ["cycle_index/src"]:
         for file in sorted(os.listdir(os.path.join(crates, folder))):
             if not file.endswith((".rt", ".antt")):
                 continue

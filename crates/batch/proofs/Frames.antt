@@ -1,50 +1,27 @@
--- The frames of a batch: one frame's answer by its code, and the loop over the frames. Assumes nothing.
+-- The frames of a batch: the loop over them. Assumes nothing.
 use mathlib.Core.Path.{_≡_, refl, sym, ap, subst, _∙_}
 use mathlib.Core.List.{List, _∷_, _++_, map, append-assoc, append-nil}
-use Prim.Native.Nat.{ℕ, zero, suc, _+_, _*_, _-_, _<_, _≤_}
+use Prim.Native.Nat.{ℕ, suc, _+_, _*_, _-_, _<_, _≤_}
 use native.Mathlib.Nat.{mul-le-mul, suc-mul, zero-mul}
 use native.Mathlib.Numerals.{add-one}
 use native.Mathlib.Omega.{arith}
 use lib.Ieee.{Float}
 use lib.ListN.{length, getD, take, drop, set, length-set, length-append, length-map, length-drop, drop-of-length-le, List·getD-map}
-use lib.Seq.{take-at, drop-drop, drop-cons, take-all, length-take-le}
-use Rattle.softmath.specs.declared.DecodeRule.{DecodeRule}
+use lib.Seq.{take-at, drop-cons, take-all, length-take-le}
 use Rattle.tanner.specs.Flat.{joined}
-use Rattle.rounds.specs.Told.{Chose}
 use Rattle.work_area.specs.Area.{cleared}
-use Rattle.one_round.specs.Held.{decodeAt}
 use Rattle.work_area.proofs.Fill.{fill-more, fill-done}
-use Rattle.passes.specs.Codes.{checksBy, kindBy}
-use Rattle.rules.specs.Rules.{ruleOf}
-use Rattle.rounds.specs.declared.Decoded.{Decoded}
-use Rattle.batch.specs.Codes.{sizeN, sizeK, decodeBy, decodeOf}
+use Rattle.batch.specs.Codes.{sizeN, sizeK}
 use Rattle.batch.specs.Pairs.{Pair, pair, pairsOf, frameOf, framesOf, AllWithin}
 use Rattle.batch.specs.Calls.{Lent, lent, Batch, frames, frameDecode, frameBits, frameCount, frameRounds, frameFirst, written}
 use Rattle.batch.specs.Steps.{Fitting, PlaceFits, placed}
 use Rattle.batch.proofs.Pairs.{pairs-length, pair-at, within-at}
-
--- ---- one frame
-
-decode-is : (code : ℕ) (r : DecodeRule) (llr : List Float) → decodeAt code r llr ≡ decodeBy code r llr
-unfolding decodeBy checksBy kindBy
-decode-is zero r llr = refl
-decode-is (suc zero) r llr = refl
-decode-is (suc (suc zero)) r llr = refl
-decode-is (suc (suc (suc n))) r llr = refl
-
-pub frame-chosen : (code rule : ℕ) (scale : Float) (limit : ℕ) (llr : List Float) (k : ℕ) (found : Decoded) (bits : List ℕ) (r : DecodeRule)
-    → r ≡ ruleOf code rule scale → Chose (decodeAt code r llr) limit k found bits → Chose (decodeOf code rule scale llr) limit k found bits
-frame-chosen code rule scale limit llr k found bits r e c = rw (decode-is code r llr, e) at c
+use Rattle.one_frame.proofs.Place.{part-frame, lent-are}
 
 -- ---- the places of frame j
 
 pub place-fits : (j n k : ℕ) → j < n → j * k + k ≤ n * k
 place-fits j n k h = omega (arith, mul-le-mul {n₁ = suc j} {m₁ = k} {n₂ = n} {m₂ = k} h (omega arith), suc-mul j k)
-
-pub part-size : {A : Type 0} (l : List A) (at k : ℕ) → at + k ≤ length l → length (take (at + k - at) (drop at l)) ≡ k
-part-size l at k h =
-    let e : at + k - at ≡ k = omega arith in
-    rw e (length-take-le k (drop at l) (simp length-drop (omega arith)))
 
 -- a part written behind what is there already, where all stays as long as it was
 module _ {A : Type 0} (bits own : List A) (at k : ℕ) (h : at + k ≤ length bits) (same : length (take at bits ++ (own ++ drop (at + k) bits)) ≡ length bits)
@@ -59,13 +36,6 @@ module _ {A : Type 0} (bits own : List A) (at k : ℕ) (h : at + k ≤ length bi
         let d = drop (at + k) bits in
         let a : length (take at bits ++ own) ≡ at + k = simp length-append (omega (arith, length-take-le at bits (omega arith), own-size)) in
         rw (← append-assoc (take at bits) own d, take-at (take at bits ++ own) d (at + k) a, append-assoc (take at bits) own rest) e
-
--- the part of k places from j times k on, as the loan of it comes back
-pub part-placed : {A : Type 0} (l : List A) (j : ℕ) {k size : ℕ} {part own : List A} → k ≡ size → part ≡ own
-    → take (j * k) l ++ (part ++ drop (j * k + k - j * k) (drop (j * k) l)) ≡ take (j * size) l ++ (own ++ drop (j * size + size) l)
-part-placed l j {size = size} e o =
-    let s : j * size + size - j * size ≡ size = omega arith in
-    rw (e, o, s, drop-drop size (j * size) l)
 
 -- one number a frame, written as far as place j
 column-length : (f : List Float → ℕ) (values : List Float) (ps : List Pair) → length (map f (framesOf values ps)) ≡ length ps
@@ -126,14 +96,6 @@ module _ (values : List Float) (ps : List Pair) (n j : ℕ) (w : AllWithin n (le
   unfolding joined
   bits-next f = rw own-next
 
--- the values from an offset on, as a part of the slice
-pub part-frame : (values : List Float) (offset : ℕ) {n size : ℕ} → n ≡ size
-    → take (offset + n - offset) (drop offset values) ≡ frameOf values (pair offset size)
-unfolding frameOf
-part-frame values offset {size = size} e =
-    let s : offset + size - offset ≡ size = omega arith in
-    rw (e, s)
-
 -- of pairs in a flat list
 module _ (values : List Float) (pairs : List ℕ) (n j : ℕ) (w : AllWithin n (length values) (pairsOf pairs)) (h : j < length (pairsOf pairs)) where
   abbrev offset : ℕ
@@ -159,10 +121,6 @@ bits-end f frames j front goal h e = sym (append-nil front) ∙ rw (drop-of-leng
 
 pub bits-whole : (bits goal : List ℕ) (at : ℕ) → length bits ≤ at → take at bits ≡ goal → bits ≡ goal
 bits-whole bits goal at h e = sym (take-all at bits h) ∙ e
-
--- the lent memory, part by part
-pub lent-are : {b c r f b' c' r' f' : List ℕ} {w w' : List Float} → b ≡ b' → c ≡ c' → r ≡ r' → f ≡ f' → w ≡ w' → lent b c r f w ≡ lent b' c' r' f' w'
-lent-are b c r f w = cc
 
 -- ---- a batch whose first j frames are decoded
 

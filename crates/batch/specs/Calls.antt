@@ -17,19 +17,10 @@ use Rattle.batch_refusals.specs.declared.Room.{Room}
 -- numbers and the lengths (1, 2, 3 by `ruleNotOfCode`, 7, 8, 9), and then `pairRefusals`, the pairs one after another, each by `pairTests` (10, 11, 12).
 pub use Rattle.batch_refusals.specs.Refusals.{pairTests, headRefusals}
 unfoldable pub use Rattle.batch_refusals.specs.Refusals.{pairRefusals, ruleNotOfCode, refusalsOf}
+-- the memory lent to a call: defined in crate `one_frame` (specs/Place.antt), as `Lent`
+pub use Rattle.one_frame.specs.Place.{Lent, lent}
 
 -- ---- what is handed over
-
--- the memory lent to the call: a frame's bits, its count, its rounds run (change request N1), its first unsatisfied check (N8), and the work area
-pub record Lent : Type 0 where
-  pub bits : List ℕ
-  pub counts : List ℕ
-  pub rounds : List ℕ
-  pub firsts : List ℕ
-  pub work : List Float
-
-abbrev pub lent : List ℕ → List ℕ → List ℕ → List ℕ → List Float → Lent
-lent bits counts rounds firsts work = record { bits = bits; counts = counts; rounds = rounds; firsts = firsts; work = work }
 
 -- a batch: its numbers, the values, the pairs that name its frames, and the memory lent
 pub record Batch : Type 0 where

@@ -6,7 +6,7 @@ use Prim.Native.Nat.{ℕ}
 use lib.Ieee.{Float, nan, binary32, ofBits, ofFields, isNan}
 use lib.ListN.{replicate}
 use Rattle.bits.specs.Bits.{numberAfter}
-use Rattle.crc.specs.Qex.{bringDown, divide, qex}
+use Rattle.checksum.specs.Qex.{bringDown, divide, qex}
 use Rattle.tanner.specs.Checks.{lowBits}
 use Rattle.refusal.specs.Outcome.{accepted, refused}
 use Rattle.batch.specs.Codes.{sizeN, sizeK}

@@ -13,6 +13,10 @@ unfoldable pub bits : List ℕ → List ℕ
 bits [] = []
 bits (b ∷ bs) = bitsOf 8 b ++ bits bs
 
+-- the bytes that n bits need
+abbrev pub bytesFor : ℕ → ℕ
+bytesFor n = (n + 7) / 8
+
 -- the number that bits write, with n written in front of them
 unfoldable pub numberAfter : ℕ → List ℕ → ℕ
 numberAfter n [] = n

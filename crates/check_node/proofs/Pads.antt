@@ -12,12 +12,12 @@ use lib.Ieee.Bits.{ofBits-fits}
 use Rattle.softmath.specs.Single.{_⊗_, zero32, one32, foldFrom, product}
 use Rattle.softmath.specs.Functions.{tanh, magnitudeOf}
 use Rattle.softmath.specs.CheckNode.{atEach, minSum, turned, halfTanh, negatedHalfTanh, checkStep, before, middle, after}
-use Rattle.softmath.specs.Others.{lesserOf, turnedBy, othersSum}
+use Rattle.by_others.specs.Others.{lesserOf, turnedBy, othersSum}
 use Rattle.softmath.specs.declared.DecodeRule.{DecodeRule}
 use Rattle.softmath.specs.declared.DecodeRule.the-variants.{SumProduct, MinSum, ScaledMinSum, Ft8}
 use Rattle.softmath.proofs.Steps.{map-same, step-parts}
 use Rattle.softmath.proofs.LeaveOneOut.{carriedFrom, fold-append, prefix-shared}
-use Rattle.softmath.proofs.ByOthers.{answersFrom, others-shared, same-answers}
+use Rattle.by_others.proofs.ByOthers.{answersFrom, others-shared, same-answers}
 use Rattle.check_node.specs.CheckStep.{padOf}
 use Rattle.check_node.proofs.TimesOne.{times-one}
 

@@ -7,7 +7,7 @@ use native.Mathlib.Omega.{arith}
 use lib.Ieee.{Float}
 use lib.ListN.{length, length-map}
 use Rattle.softmath.specs.Single.{product}
-use Rattle.softmath.specs.CheckNode.{atEach, checkStep, before, middle, after, minSum}
+use Rattle.softmath.specs.CheckNode.{atEach, checkStep, before, middle, after, minSum, factorOf}
 use Rattle.softmath.specs.declared.DecodeRule.{DecodeRule}
 use Rattle.softmath.specs.declared.DecodeRule.the-variants.{SumProduct, MinSum, ScaledMinSum, Ft8}
 use Rattle.softmath.proofs.Steps.{step-parts}
@@ -16,7 +16,6 @@ use Rattle.slots.specs.Layout.{scattered}
 use Rattle.slots.proofs.Columns.{column-map}
 use Rattle.slots.proofs.Scattered.{scattered-length}
 use Rattle.slot_products.specs.Products.{ByColumns}
-use Rattle.slot_minima.specs.MinSum.{factorOf}
 use Rattle.check_node.specs.CheckStep.{AtColumns, padOf}
 
 -- the three passes are the step

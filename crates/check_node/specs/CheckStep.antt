@@ -3,7 +3,7 @@ use mathlib.Core.Bool.{true, false}
 use lib.Ieee.{Float, inf}
 use Rattle.softmath.specs.declared.DecodeRule.{DecodeRule}
 use Rattle.softmath.specs.declared.DecodeRule.the-variants.{SumProduct, MinSum, ScaledMinSum, Ft8}
-pub use Rattle.slot_minima.specs.MinSum.{AtColumns}
+pub use Rattle.slots.specs.Columns.{AtColumns}
 
 -- the message in the place of a last entry that a check lacks: +infinity, or -infinity where the rule takes minus the message
 unfoldable pub padOf : DecodeRule → Float

@@ -7,10 +7,13 @@ ghost use lib.Ieee.{Float};
 ghost use lib.ListN.{length};
 ghost use Rattle.tanner.specs.Flat.{Below};
 ghost use Rattle.softmath.specs.Single.{product};
-ghost use Rattle.softmath.specs.CheckNode.{atEach, middle, checkStep};
+ghost use Rattle.softmath.specs.CheckNode.{atEach, middle, checkStep, minSum, factorOf};
 ghost use Rattle.slots.specs.Layout.{scattered};
 ghost use Rattle.check_node.specs.CheckStep.{AtColumns, padOf};
 use softmath::DecodeRule;
+
+// Which engine answers a min-sum check: the two least magnitudes of all its messages, or each entry's others one by one.
+const BY_OTHERS: bool = false;
 
 // The value at each of the places.
 fn scatter(value: f32, places: &[u16], work: &mut [f32])
@@ -45,9 +48,24 @@ fn product_step(rule: DecodeRule, m: usize, d: usize, work: &mut [f32])
     ensures { λ _. ⌜ AtColumns (checkStep rule) m d (now (work .entry)) (now (work .exit)) ⌝ }
 {
     let mut scratch = [0.0f32; 512];
-    softmath::before_checks(rule, work);
+    each_message::before_checks(rule, work);
     slot_products::products_slots(m, d, work, &mut scratch);
-    softmath::after_checks(rule, work);
+    each_message::after_checks(rule, work);
+}
+
+// Min-sum by the engine that the constant selects. The second takes checks of up to 16 entries, and the codes have none above 11.
+fn min_sum_step(rule: DecodeRule, m: usize, d: usize, work: &mut [f32])
+    requires { ⌜ length (now work) ≡ d * m ⌝ }
+    requires { ⌜ m ≤ 256 ⌝ }
+    ensures { λ _. ⌜ AtColumns (minSum (factorOf rule)) m d (now (work .entry)) (now (work .exit)) ⌝ }
+{
+    if BY_OTHERS {
+        if d <= 16 {
+            slot_others::min_sum_second(rule, m, d, work);
+            return;
+        }
+    }
+    slot_minima::min_sum_minima(rule, m, d, work);
 }
 
 // The check step of every check: the pads, then the rule. Between products and min-sum the choice is made once for all checks; which min-sum rule it
@@ -62,8 +80,8 @@ pub fn check_step(rule: DecodeRule, m: usize, d: usize, pads: &[u16], work: &mut
     scatter(pad, pads, work);
     match rule {
         DecodeRule::SumProduct => product_step(rule, m, d, work),
-        DecodeRule::MinSum => slot_minima::min_sum_step(rule, m, d, work),
-        DecodeRule::ScaledMinSum(_) => slot_minima::min_sum_step(rule, m, d, work),
+        DecodeRule::MinSum => min_sum_step(rule, m, d, work),
+        DecodeRule::ScaledMinSum(_) => min_sum_step(rule, m, d, work),
         DecodeRule::Ft8 => product_step(rule, m, d, work),
     }
 }

@@ -11,7 +11,7 @@ use Rattle.bits.specs.Bits.{numberAfter}
 use Rattle.bits.proofs.AreBits.{areBits-append, zeros-are}
 use Rattle.bits.proofs.Packed.{unpacked}
 use Rattle.crc.specs.Block.{payloadBits, blockChecksum}
-use Rattle.crc.specs.Qex.{bringDown, divide, qex}
+use Rattle.checksum.specs.Qex.{bringDown, divide, qex}
 use Rattle.tanner.specs.Checks.{lowBits}
 use Rattle.tanner.proofs.Count.{low-length}
 use Rattle.clean.specs.Clean.{anyNan, payloadChecksum, payloadOf, checksumRight, frameClean}

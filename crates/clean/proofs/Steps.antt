@@ -16,12 +16,12 @@ use lib.ListN.{length, getD, take, drop, replicate, length-append, getD-replicat
 use lib.Pow.{pow-mono, pow-add}
 use lib.Seq.{take-suc, take-all, drop-length, drop-cons, getD-append-add}
 use Rattle.bits.specs.Bits.{number, numberAfter}
-use Rattle.crc.specs.Register.{turn}
-use Rattle.crc.specs.Qex.{bringDown, divide, qex}
+use Rattle.checksum.specs.Register.{turn}
+use Rattle.checksum.specs.Qex.{bringDown, divide, qex}
 use Rattle.bits.proofs.Digits.{number-append}
-use Rattle.crc.proofs.Turn.{lowTurn}
+use Rattle.checksum.proofs.Turn.{lowTurn}
 use Rattle.bits.proofs.AreBits.{AreBits, none, more, areBits-append, areBits-take, zeros-are}
-use Rattle.crc.proofs.Division.{qex-lt, qex-more}
+use Rattle.checksum.proofs.Division.{qex-lt, qex-more}
 use Rattle.tanner.specs.Checks.{lowBits}
 use Rattle.tanner.proofs.Count.{low-length}
 use Rattle.clean.specs.Clean.{anyNan}

@@ -7,7 +7,7 @@ use lib.Dec.{eqb}
 use lib.Ieee.{Float, isNan}
 use lib.ListN.{take, drop, replicate}
 use Rattle.bits.specs.Bits.{number, packed}
-use Rattle.crc.specs.Qex.{qex}
+use Rattle.checksum.specs.Qex.{qex}
 use Rattle.tanner.specs.Checks.{lowBits}
 
 unfoldable pub anyNan : List Float → Bool

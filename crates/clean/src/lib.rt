@@ -6,8 +6,8 @@ ghost use Prim.Native.Nat.{_+_, _*_, _%_, _≤_, _<_};
 ghost use lib.Bits.{bitXor};
 ghost use lib.ListN.{length, getD, replicate};
 ghost use Rattle.bits.specs.Bits.{number};
-ghost use Rattle.crc.specs.Register.{turn};
-ghost use Rattle.crc.specs.Qex.{qex};
+ghost use Rattle.checksum.specs.Register.{turn};
+ghost use Rattle.checksum.specs.Qex.{qex};
 ghost use Rattle.tanner.specs.Checks.{lowBits};
 ghost use Rattle.clean.specs.Clean.{anyNan, payloadChecksum, carriedChecksum, checksumRight, frameClean};
 
@@ -38,7 +38,7 @@ fn turn_bit(r: u16, b: u16) -> u16
     requires { ⌜ b < 2 ⌝ }
     ensures { λ q. ⌜ q ≡ turn (bitXor r (b * 8192)) % 16384 ⌝ }
 {
-    crc::step(r ^ (b * 8192)) % 16384
+    checksum::step(r ^ (b * 8192)) % 16384
 }
 
 // The low bit of byte i, or 0 past the last.

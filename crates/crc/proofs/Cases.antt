@@ -5,8 +5,8 @@ use lib.ListN.{take}
 use Rattle.bits.specs.Bits.{bitsOf, bits, numberAfter}
 use Rattle.crc.specs.Block.{carried}
 use Rattle.crc.specs.Cases.{checksumCases, Holds}
-use Rattle.crc.specs.Qex.{bringDown, divide, qex}
-use Rattle.crc.specs.Register.{turn, fed, register, crc14}
+use Rattle.checksum.specs.Qex.{bringDown, divide, qex}
+use Rattle.checksum.specs.Register.{turn, fed, register, crc14}
 
 pub checksum-cases : Holds checksumCases
 unfolding turn fed register crc14 bitsOf bits numberAfter carried

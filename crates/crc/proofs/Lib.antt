@@ -1,8 +1,2 @@
-pub mod Xor
-pub mod Turn
-pub mod Division
-pub mod Fed
-pub mod Upper
-pub mod Agreement
 pub mod Places
 pub mod Cases

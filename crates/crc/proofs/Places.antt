@@ -11,11 +11,11 @@ use lib.Seq.{take-append-add, drop-append-add, getD-append-add, getD-at, drop-co
 use Rattle.bits.specs.Bits.{bitsOf, bits, numberAfter, number, packed}
 use Rattle.crc.specs.Block.{payloadBits, blockChecksum, block, carried}
 use Rattle.crc.specs.Bytes.{laid, stored}
-use Rattle.crc.specs.Qex.{qex}
-use Rattle.crc.specs.Register.{crc14, unused}
-use Rattle.crc.proofs.Agreement.{register-qex}
+use Rattle.checksum.specs.Qex.{qex}
+use Rattle.checksum.specs.Register.{crc14, unused}
+use Rattle.checksum.proofs.Agreement.{register-qex}
 use Rattle.bits.proofs.AreBits.{areBits-append, areBits-take, zeros-are}
-use Rattle.crc.proofs.Division.{qex-lt}
+use Rattle.checksum.proofs.Division.{qex-lt}
 use Rattle.bits.proofs.Digits.{Bytes, bits-are, bits-length, bits-append, take-upper, bitsOf-split, number-bits, number-append, packed-bits}
 
 -- the low three bits of a byte cleared

@@ -3,7 +3,7 @@ use mathlib.Core.List.{List, _++_}
 use Prim.Native.Nat.{ℕ}
 use lib.ListN.{take, drop, replicate}
 use Rattle.bits.specs.Bits.{bits, bitsOf, number, packed}
-use Rattle.crc.specs.Qex.{qex}
+use Rattle.checksum.specs.Qex.{qex}
 
 -- the payload's 77 bits; the low three bits of byte 9 are no part of it
 abbrev pub payloadBits : List ℕ → List ℕ

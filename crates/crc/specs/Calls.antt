@@ -1,14 +1,11 @@
 -- What the calls of this crate answer: the cases of their enums, and the conditions on which each call is turned down, in order.
 use mathlib.Core.Bool.{not}
 use mathlib.Core.List.{List, [], _∷_}
-use Prim.Native.Nat.{ℕ, _+_, _/_}
+use Prim.Native.Nat.{ℕ}
 use lib.Dec.{eqb, ltb}
 use lib.ListN.{length}
 use Rattle.refusal.specs.Outcome.{Condition, _when_}
-
--- the bytes that n bits need
-abbrev pub bytesFor : ℕ → ℕ
-bytesFor n = (n + 7) / 8
+use Rattle.bits.specs.Bits.{bytesFor}
 
 -- "checksum bits need more bytes than given"
 abbrev pub crc14Refusals : List ℕ → ℕ → List Condition

@@ -4,7 +4,7 @@ use mathlib.Core.List.{List, [], _∷_, _++_}
 use Prim.Native.Nat.{ℕ}
 use lib.ListN.{replicate}
 use Rattle.crc.specs.Block.{carried}
-use Rattle.crc.specs.Register.{crc14}
+use Rattle.checksum.specs.Register.{crc14}
 
 pub record Case : Type 0 where
   pub gives : ℕ

@@ -1,7 +1,4 @@
-pub mod Qex
-pub mod Register
 pub mod Block
 pub mod Calls
 pub mod Cases
 pub mod Bytes
-pub mod Upper

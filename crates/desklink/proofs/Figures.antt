@@ -2,7 +2,7 @@
 use mathlib.Core.Path.{_≡_, subst, _∙_}
 use lib.IntN.{ℤ}
 use Rattle.refusal.specs.Outcome.{Outcome}
-use Rattle.coded.specs.Figures.{Writes}
+use Rattle.coded_figures.specs.Figures.{Writes}
 
 -- z is what was stored, and n what is read back of it
 pub writes-told : {A : Type 0} {answer outcome : Outcome A} {z n : ℤ} {before after : A} → answer ≡ outcome → Writes answer z before after → n ≡ z

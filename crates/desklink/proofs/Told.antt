@@ -15,7 +15,8 @@ use Rattle.first_reason.specs.declared.Reason.{Reason}
 use Rattle.reason.specs.Calls as reason
 use Rattle.groups.specs.Groups as groups
 use Rattle.cycles.specs.Calls.{Report}
-use Rattle.coded.specs.Coded.{codedUnit, toldIn, Lent, Counts, Decodes, Explains, Lists}
+use Rattle.coded.specs.Coded.{codedUnit, toldIn, Lent}
+use Rattle.coded_parts.specs.Parts.{Counts, Decodes, Explains, Lists}
 use Rattle.desklink.specs.Calls.{DecodeCall, BatchCall, GroupsCall, ReasonCall}
 
 -- z is what was stored, and n what is read back of it

@@ -14,7 +14,8 @@ use Rattle.batch.specs.Calls as batch
 use Rattle.reason.specs.Under.{reasonUnder}
 use Rattle.reason.specs.Calls as reason
 use Rattle.groups.specs.Groups.{groupRefusals, overwritten}
-use Rattle.coded.specs.Coded.{codedUnit, Lent, Decodes, Explains}
+use Rattle.coded.specs.Coded.{codedUnit, Lent}
+use Rattle.coded_parts.specs.Parts.{Decodes, Explains}
 
 -- a single decode
 pub record DecodeCall (s : Single) (n : ℤ) (rounds first : Lent) (bits : List ℕ) (work : List Float) : Type 0 where

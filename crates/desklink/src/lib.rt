@@ -1,13 +1,13 @@
 // The C interface: each call on numbers and slices, its answer one signed number. What more a call tells goes through the references lent for it.
 mod totals;
 
-use records::Pair;
+use record_check::Pair;
 ghost use mathlib.Core.Path.{_≡_};
 ghost use mathlib.Core.Bool.{not};
 ghost use lib.Dec.{eqb};
 ghost use lib.ListN.{length};
 ghost use Rattle.refusal.specs.Outcome.{judged, kept};
-ghost use Rattle.crc.specs.Register.{crc14};
+ghost use Rattle.checksum.specs.Register.{crc14};
 ghost use Rattle.crc.specs.Block.{block, carried};
 ghost use Rattle.crc.specs.Calls as crc·calls;
 ghost use Rattle.rules.specs.Rules.{asStored};
@@ -20,7 +20,7 @@ ghost use Rattle.ldpc_codes.specs.Calls as staircase·calls;
 ghost use Rattle.decoders.specs.Calls as decoders·calls;
 ghost use Rattle.batch.specs.Pairs.{pairsOf};
 ghost use Rattle.batch.specs.Calls as batch·calls;
-ghost use Rattle.records.specs.Fields as records·fields;
+ghost use Rattle.record_check.specs.Fields as records·fields;
 ghost use Rattle.eighths.specs.Calls.{bytesRefusals, valuesRefusals, valuesOf, bytesOf};
 ghost use Rattle.filling.specs.Filling.{filledWord, filledPlaces, listed};
 ghost use Rattle.numbered.specs.Codes.{checksBy};
@@ -29,7 +29,8 @@ ghost use Rattle.cycles.specs.Calls.{cycleRefusals, reportBy, writtenBy};
 ghost use Rattle.packing.specs.Packing.{packedWord, unpackedWord, packRefusals, unpackRefusals};
 ghost use Rattle.clean_frames.specs.Calls.{frameRefusals, cleanNumber};
 ghost use Rattle.reason.specs.Calls as reason·calls;
-ghost use Rattle.coded.specs.Coded.{coded, codedUnit, lent, Counts, Lists};
+ghost use Rattle.coded.specs.Coded.{coded, codedUnit, lent};
+ghost use Rattle.coded_parts.specs.Parts.{Counts, Lists};
 ghost use Rattle.desklink.specs.Calls.{DecodeCall, BatchCall, GroupsCall, ReasonCall};
 
 // ---- the checksum
@@ -74,7 +75,7 @@ pub extern "C" fn desklink_ldpc_count_errors(hard: &[u8], first: &mut u16) -> i3
     ensures { λ n. ⌜ Counts (judged (ldpc·calls.countRefusals (now (hard .entry))) (syndromeOfBytes checks (now (hard .entry))))
         n (lent (now (first .entry)) (now (first .exit))) ⌝ }
 {
-    coded::counting_code(ldpc::ldpc_count_errors(hard), first)
+    coded_parts::counting_code(ldpc::ldpc_count_errors(hard), first)
 }
 
 #[no_mangle]
@@ -89,7 +90,7 @@ pub extern "C" fn desklink_ldpc_decode_soft_unguarded(
     ensures { λ n. ⌜ DecodeCall (decoders·calls.ft8Soft (now (llr .entry)) limit (now (plain .entry)) (now (work .entry)))
         n (lent (now (rounds .entry)) (now (rounds .exit))) (lent (now (first .entry)) (now (first .exit))) (now (plain .exit)) (now (work .exit)) ⌝ }
 {
-    coded::decoding_code(
+    coded_parts::decoding_code(
         decoders::ldpc_decode_soft(llr, limit, plain, work),
         rounds,
         first,
@@ -113,7 +114,7 @@ pub extern "C" fn desklink_syndrome_weight(code: u32, hard: &[u8], first: &mut u
     ensures { λ n. ⌜ Counts (judged (staircase·calls.weightRefusals code (now (hard .entry))) (staircase·calls.syndromeBy code (now (hard .entry))))
         n (lent (now (first .entry)) (now (first .exit))) ⌝ }
 {
-    coded::counting_code(ldpc_codes::syndrome_weight(code, hard), first)
+    coded_parts::counting_code(ldpc_codes::syndrome_weight(code, hard), first)
 }
 
 #[no_mangle]
@@ -129,7 +130,7 @@ pub extern "C" fn desklink_decode_soft_unguarded(
     ensures { λ n. ⌜ DecodeCall (decoders·calls.soft code limit (now (llr .entry)) (now (bits .entry)) (now (work .entry)))
         n (lent (now (rounds .entry)) (now (rounds .exit))) (lent (now (first .entry)) (now (first .exit))) (now (bits .exit)) (now (work .exit)) ⌝ }
 {
-    coded::decoding_code(
+    coded_parts::decoding_code(
         decoders::decode_soft(code, limit, llr, bits, work),
         rounds,
         first,
@@ -151,7 +152,7 @@ pub extern "C" fn desklink_decode_soft_with_unguarded(
     ensures { λ n. ⌜ DecodeCall (decoders·calls.softWith code rule scale limit (now (llr .entry)) (now (bits .entry)) (now (work .entry)))
         n (lent (now (rounds .entry)) (now (rounds .exit))) (lent (now (first .entry)) (now (first .exit))) (now (bits .exit)) (now (work .exit)) ⌝ }
 {
-    coded::decoding_code(
+    coded_parts::decoding_code(
         decoders::decode_soft_with(code, rule, scale, limit, llr, bits, work),
         rounds,
         first,
@@ -343,7 +344,7 @@ pub extern "C" fn desklink_frame_reason_unguarded(
     ensures { λ n. ⌜ ReasonCall (reason·calls.asked code rule scale limit (now (values .entry)) (now (word .entry)) (now (work .entry)))
         n (lent (now (part .entry)) (now (part .exit))) (lent (now (computed .entry)) (now (computed .exit))) (now (word .exit)) (now (work .exit)) ⌝ }
 {
-    coded::reason_code(
+    coded_parts::reason_code(
         reason::frame_reason(code, rule, scale, limit, values, word, work),
         part,
         computed,
@@ -373,7 +374,7 @@ pub extern "C" fn desklink_list_cycles(code: u32, places: &mut [u16], relaxed: &
     ensures { λ _. ⌜ now (places .exit)
         ≡ kept (cycleRefusals code (now (places .entry))) (now (places .entry)) (writtenBy code (now (places .entry))) ⌝ }
 {
-    coded::listed_code(cycles::list_cycles(code, places), relaxed)
+    coded_parts::listed_code(cycles::list_cycles(code, places), relaxed)
 }
 
 // ---- soft values in eighths: any number but 0 says that positive counts as 1

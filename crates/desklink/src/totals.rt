@@ -5,7 +5,7 @@ ghost use Rattle.batch.specs.Pairs.{pairsOf};
 ghost use Rattle.figures.specs.Fraction.{lowest};
 ghost use Rattle.figures.specs.Totals.{joinRefusals, sums, fractionRefusals};
 ghost use Rattle.batch_figures.specs.Results.{results, added};
-ghost use Rattle.coded.specs.Figures.{totals, fraction, Writes};
+ghost use Rattle.coded_figures.specs.Figures.{totals, fraction, Writes};
 
 // The total with the frames of a batch: of its values and pairs, and of what its call left.
 #[no_mangle]
@@ -35,7 +35,7 @@ pub extern "C" fn desklink_totals_add_unguarded(
         rounds: *round_sum,
     };
     let sum = batch_figures::add_batch(total, code, values, pairs, bits, counts, rounds);
-    coded::summed_code(sum, frames, clean, count_sum, round_sum)
+    coded_figures::summed_code(sum, frames, clean, count_sum, round_sum)
 }
 
 // The totals of the frames of both.
@@ -67,7 +67,7 @@ pub extern "C" fn desklink_totals_join_unguarded(
         counts: more_counts,
         rounds: more_rounds,
     };
-    coded::summed_code(figures::join(total, more), frames, clean, counts, rounds)
+    coded_figures::summed_code(figures::join(total, more), frames, clean, counts, rounds)
 }
 
 // The share of clean frames.
@@ -87,7 +87,7 @@ pub extern "C" fn desklink_clean_share_unguarded(
         counts: 0,
         rounds: 0,
     };
-    coded::figure_code(figures::clean_share(total), over, under)
+    coded_figures::figure_code(figures::clean_share(total), over, under)
 }
 
 // The mean count of a frame.
@@ -107,5 +107,5 @@ pub extern "C" fn desklink_mean_count_unguarded(
         counts,
         rounds: 0,
     };
-    coded::figure_code(figures::mean_count(total), over, under)
+    coded_figures::figure_code(figures::mean_count(total), over, under)
 }

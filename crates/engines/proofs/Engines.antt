@@ -10,7 +10,7 @@ use Rattle.softmath.specs.Single.{one32}
 use Rattle.softmath.specs.CheckNode.{checkStep}
 use Rattle.softmath.specs.declared.DecodeRule.{DecodeRule}
 use Rattle.softmath.specs.declared.DecodeRule.the-variants.{SumProduct, MinSum, ScaledMinSum, Ft8}
-use Rattle.softmath.proofs.ByOthers.{same-answers}
+use Rattle.by_others.proofs.ByOthers.{same-answers}
 use Rattle.tanner.specs.Checks.{Word, count, firstUnsatisfied}
 use Rattle.tanner.specs.Flat.{joined}
 use Rattle.one_round.specs.Round.{Decode, firstMessages, answers, sent, initialWord}

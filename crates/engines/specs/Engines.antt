@@ -8,7 +8,7 @@ use lib.ListN.{length, take}
 use Rattle.refusal.specs.Outcome.{Outcome, judged, kept}
 use Rattle.softmath.specs.Single.{one32}
 use Rattle.softmath.specs.CheckNode.{checkStep}
-use Rattle.softmath.specs.Others.{othersSum}
+use Rattle.by_others.specs.Others.{othersSum}
 use Rattle.softmath.specs.declared.DecodeRule.{DecodeRule}
 use Rattle.softmath.specs.declared.DecodeRule.the-variants.{SumProduct, MinSum, ScaledMinSum, Ft8}
 use Rattle.tanner.specs.Checks.{Word, count, firstUnsatisfied, First}

@@ -4,7 +4,7 @@ use mathlib.Core.List.{List, [], _∷_, _++_}
 use lib.Ieee.{Float, binary32, ofBits, ofFields, nan, isNan}
 use lib.ListN.{replicate}
 use Rattle.bits.specs.Bits.{bitsOf, bits, numberAfter}
-use Rattle.crc.specs.Qex.{bringDown, divide, qex}
+use Rattle.checksum.specs.Qex.{bringDown, divide, qex}
 use Rattle.tanner.specs.Checks.{Word, lowBits, parity, firstBy}
 use Rattle.ldpc.specs.Tables.{nm, numRows}
 use Rattle.ldpc.specs.Code174.{rowsOfSeven, checks}

@@ -17,10 +17,12 @@ use Rattle.staircase.specs.Staircase.{taps, parityEntries, checkRow, checkRows}
 use Rattle.ldpc_codes.specs.Calls.{syndromeBy}
 use Rattle.staircase.specs.Codes.{codeOf, checks}
 use Rattle.slots.specs.Layout.{threes}
-use Rattle.staircase.proofs.Rows.{rows0, rows1, rows2}
-use Rattle.staircase.proofs.N512R12.{checks-right0}
-use Rattle.staircase.proofs.N576R23.{checks-right1}
-use Rattle.staircase.proofs.N512R34.{checks-right2}
+use Rattle.n512r12.proofs.Rows.{rows0}
+use Rattle.n576r23.proofs.Rows.{rows1}
+use Rattle.n512r34.proofs.Rows.{rows2}
+use Rattle.n512r12.proofs.Tables.{checks-right0}
+use Rattle.n576r23.proofs.Tables.{checks-right1}
+use Rattle.n512r34.proofs.Tables.{checks-right2}
 use Rattle.known_cases.specs.Cases.{alone}
 
 zero-getD : (n i : ℕ) → getD (replicate {A = ℕ} n 0) i 0 ≡ 0

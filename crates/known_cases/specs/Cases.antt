@@ -4,7 +4,7 @@ use mathlib.Core.List.{List, [], _∷_, _++_}
 use Prim.Native.Nat.{ℕ, _+_, _-_}
 use lib.Ieee.{Float, nan, binary32, neg, ofBits}
 use lib.ListN.{getD, replicate}
-use Rattle.crc.specs.Register.{crc14}
+use Rattle.checksum.specs.Register.{crc14}
 use Rattle.crc.specs.Block.{carried}
 use Rattle.tanner.specs.Checks.{countBytes}
 use Rattle.softmath.specs.Single.{zero32, two32}

@@ -15,7 +15,8 @@ use Rattle.tanner.proofs.Below.{below-none, below-cons, below-first, below-rest
 use Rattle.staircase.specs.Staircase.{taps, parityEntries, checkRow, checkRows, checksOf, parityBits, encoded}
 pub use Rattle.staircase.proofs.Positions.{checks-length}
 use Rattle.staircase.proofs.Positions.{taps-below}
-use Rattle.stairs.specs.Stairs.{bitBefore, filled}
+use Rattle.stairs.specs.Stairs.{bitBefore}
+use Rattle.stair_parity.specs.Filling.{filled}
 
 -- ---- the parity of one row
 parity-append : (xs ys : List ℕ) (w : Word) → parity (xs ++ ys) w ≡ (parity xs w + parity ys w) % 2

@@ -17,8 +17,8 @@ use Rattle.staircase.specs.Codes.{codeOf, columns, checks}
 use Rattle.staircase.specs.Shape.{stairRows, stairs}
 use Rattle.staircase.proofs.EdgeCount.{columns-length}
 use Rattle.staircase.proofs.Positions.{checks-low, checks-many}
-use Rattle.stairs.specs.Stairs.{filled}
-use Rattle.stairs.proofs.Rows.{fill-then}
+use Rattle.stair_parity.specs.Filling.{filled}
+use Rattle.stair_parity.proofs.Filling.{fill-then}
 use Rattle.ldpc_codes.specs.Calls.{codewordOf, shortWord, syndromeOf}
 use Rattle.ldpc_codes.proofs.Codewords.{fill-all}
 

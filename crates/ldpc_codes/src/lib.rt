@@ -20,7 +20,8 @@ ghost use Rattle.staircase.specs.Codes.{codeOf, checks};
 ghost use Rattle.tanner.specs.Masked.{syndromeMasked};
 ghost use Rattle.tanner.specs.Found.{countingOf};
 ghost use Rattle.staircase.specs.Shape.{stairs};
-ghost use Rattle.stairs.specs.Stairs.{Stairs, filled};
+ghost use Rattle.stairs.specs.Stairs.{Stairs};
+ghost use Rattle.stair_parity.specs.Filling.{filled};
 ghost use Rattle.ldpc_codes.specs.Calls.{encodeRefusals, encodedBy};
 ghost use Rattle.ldpc_codes.specs.Calls.{shortRefusals, shortWord, syndromeOf, weightRefusals, syndromeBy};
 
@@ -67,10 +68,10 @@ fn fill_n512r12(codeword: &mut [u8])
     ensures { λ _. ⌜ now (codeword .exit) ≡ filled (checks n512r12) (n512r12 .k) (now (codeword .entry)) ⌝ }
 {
     let taps = N512R12_TAPS;
-    stairs::fill_four(3, 256, 0, 16, &taps, codeword);
-    stairs::fill_four(3, 256, 64, 16, &taps, codeword);
-    stairs::fill_four(3, 256, 128, 16, &taps, codeword);
-    stairs::fill_four(3, 256, 192, 16, &taps, codeword);
+    stair_parity::fill_four(3, 256, 0, 16, &taps, codeword);
+    stair_parity::fill_four(3, 256, 64, 16, &taps, codeword);
+    stair_parity::fill_four(3, 256, 128, 16, &taps, codeword);
+    stair_parity::fill_four(3, 256, 192, 16, &taps, codeword);
 }
 
 // The parity bits of code 1.
@@ -79,10 +80,10 @@ fn fill_n576r23(codeword: &mut [u8])
     ensures { λ _. ⌜ now (codeword .exit) ≡ filled (checks n576r23) (n576r23 .k) (now (codeword .entry)) ⌝ }
 {
     let taps = N576R23_TAPS;
-    stairs::fill_four(6, 384, 0, 12, &taps, codeword);
-    stairs::fill_four(6, 384, 48, 12, &taps, codeword);
-    stairs::fill_four(6, 384, 96, 12, &taps, codeword);
-    stairs::fill_four(6, 384, 144, 12, &taps, codeword);
+    stair_parity::fill_four(6, 384, 0, 12, &taps, codeword);
+    stair_parity::fill_four(6, 384, 48, 12, &taps, codeword);
+    stair_parity::fill_four(6, 384, 96, 12, &taps, codeword);
+    stair_parity::fill_four(6, 384, 144, 12, &taps, codeword);
 }
 
 // The parity bits of code 2.
@@ -91,10 +92,10 @@ fn fill_n512r34(codeword: &mut [u8])
     ensures { λ _. ⌜ now (codeword .exit) ≡ filled (checks n512r34) (n512r34 .k) (now (codeword .entry)) ⌝ }
 {
     let taps = N512R34_TAPS;
-    stairs::fill_four(9, 384, 0, 8, &taps, codeword);
-    stairs::fill_four(9, 384, 32, 8, &taps, codeword);
-    stairs::fill_four(9, 384, 64, 8, &taps, codeword);
-    stairs::fill_four(9, 384, 96, 8, &taps, codeword);
+    stair_parity::fill_four(9, 384, 0, 8, &taps, codeword);
+    stair_parity::fill_four(9, 384, 32, 8, &taps, codeword);
+    stair_parity::fill_four(9, 384, 64, 8, &taps, codeword);
+    stair_parity::fill_four(9, 384, 96, 8, &taps, codeword);
 }
 
 // The parity bits of the code with that number, in a codeword whose message bytes are in place.

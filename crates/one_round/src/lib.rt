@@ -17,8 +17,8 @@ pub fn counted(code: u32, hard: &[u8]) -> Counted
     requires { ⌜ length (now hard) ≡ sizeN code ⌝ }
     ensures { λ r. ⌜ syndromeOf r ≡ syndromeMasked 1 (checksBy code) (now (hard .entry)) ⌝ }
 {
-    let count = passes::count(code, hard);
-    let first = passes::first_counted(code, count, hard);
+    let count = counting::count(code, hard);
+    let first = counting::first_counted(code, count, hard);
     Counted { count, first }
 }
 
@@ -34,5 +34,5 @@ pub fn round(code: u32, rule: DecodeRule, llr: &[f32], messages: &mut [f32], har
 {
     passes::check_pass(code, rule, messages);
     passes::bit_pass(code, llr, messages, hard);
-    passes::count(code, hard)
+    counting::count(code, hard)
 }

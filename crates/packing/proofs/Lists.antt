@@ -8,7 +8,8 @@ use native.Mathlib.Nat.{zero-add}
 use lib.ListN.{length, take, getD, set}
 use lib.Seq.{take-suc, take-suc-set, take-all}
 use Rattle.text.specs.Text.{byteAt}
-use Rattle.packing.specs.Packing.{bytesFor, bytesFrom, packedWord}
+use Rattle.bits.specs.Bits.{bytesFor}
+use Rattle.packing.specs.Packing.{bytesFrom, packedWord}
 
 -- the last byte of one more
 pub bytes-more : (word : List ℕ) (i n : ℕ) → bytesFrom word i (suc n) ≡ bytesFrom word i n ++ (byteAt word (i + n * 8) ∷ [])

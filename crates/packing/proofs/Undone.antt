@@ -8,10 +8,10 @@ use native.Mathlib.Nat.{zero-add}
 use native.Mathlib.Decide.{decLt}
 use lib.ListN.{length, take, getD, length-map, List·getD-map, List·getD-eq-default}
 use lib.Seq.{length-take-le, getD-take, ext-getD}
-use Rattle.bits.specs.Bits.{bits, bitsOf, number, numberAfter}
+use Rattle.bits.specs.Bits.{bits, bitsOf, bytesFor, number, numberAfter}
 use Rattle.bits.proofs.Digits.{bits-length, bits-at, number-bits}
 use Rattle.text.specs.Text.{bitAt, byteAt}
-use Rattle.packing.specs.Packing.{bytesFor, bytesFrom, packedWord, unpackedWord, Undone, Repacked}
+use Rattle.packing.specs.Packing.{bytesFrom, packedWord, unpackedWord, Undone, Repacked}
 
 -- bit 7 - j of the byte of eight bits is bit j of these
 bit-of-byte : (word : List ℕ) (i j : ℕ) → j < 8 → byteAt word i / 2 ^ (7 - j) % 2 ≡ bitAt word (i + j)

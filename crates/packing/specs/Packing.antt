@@ -2,16 +2,12 @@
 use mathlib.Core.Path.{_≡_}
 use mathlib.Core.Bool.{not}
 use mathlib.Core.List.{List, [], _∷_, map}
-use Prim.Native.Nat.{ℕ, zero, suc, _+_, _/_, _%_, _≤_, _<_}
+use Prim.Native.Nat.{ℕ, zero, suc, _+_, _%_, _≤_, _<_}
 use lib.Dec.{eqb, ltb}
 use lib.ListN.{length, take, getD}
 use Rattle.refusal.specs.Outcome.{Condition, _when_}
 use Rattle.text.specs.Text.{byteAt}
-use Rattle.bits.specs.Bits.{bits}
-
--- the bytes that n bits need
-abbrev pub bytesFor : ℕ → ℕ
-bytesFor n = (n + 7) / 8
+use Rattle.bits.specs.Bits.{bits, bytesFor}
 
 -- n bytes of the bits from i on, most significant first; a bit is its byte's low bit, and a zero past the last
 unfoldable pub bytesFrom : List ℕ → ℕ → ℕ → List ℕ

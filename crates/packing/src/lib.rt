@@ -5,17 +5,10 @@ ghost use Prim.Native.Nat.{_<_, _≤_, _/_};
 ghost use lib.ListN.{length, getD};
 ghost use Rattle.refusal.specs.Outcome.{judged, kept};
 ghost use Rattle.refusal.specs.Answers.{statusOf};
-ghost use Rattle.bits.specs.Bits.{bits};
-ghost use Rattle.packing.specs.Packing.{bytesFor, packedWord, unpackedWord, packRefusals, unpackRefusals};
+ghost use Rattle.bits.specs.Bits.{bits, bytesFor};
+ghost use Rattle.packing.specs.Packing.{packedWord, unpackedWord, packRefusals, unpackRefusals};
 use refusal::Refusal;
 use refusal::Status;
-
-// How many bytes hold so many bits; no sum here passes the largest usize.
-fn bytes_for(bits: usize) -> usize
-    ensures { λ r. ⌜ r ≡ bytesFor «bits» ⌝ }
-{
-    bits / 8 + (bits % 8 + 7) / 8
-}
 
 // ---- packing
 
@@ -36,7 +29,7 @@ pub fn pack_bits(word: &[u8], bytes: &mut [u8]) -> Status
     ensures { λ _. ⌜ now (bytes .exit)
         ≡ kept (packRefusals (now (word .entry)) (now (bytes .entry))) (now (bytes .entry)) (packedWord (now (word .entry))) ⌝ }
 {
-    if bytes.len() != bytes_for(word.len()) {
+    if bytes.len() != bits::bytes_for(word.len()) {
         return Status::Refused(Refusal::OutputLength);
     }
     write_bytes(word, bytes);
@@ -72,7 +65,7 @@ pub fn unpack_bits(bytes: &[u8], word: &mut [u8]) -> Status
         ≡ kept (unpackRefusals (now (bytes .entry)) (now (word .entry))) (now (word .entry))
         (unpackedWord (length (now (word .entry))) (now (bytes .entry))) ⌝ }
 {
-    if bytes.len() < bytes_for(word.len()) {
+    if bytes.len() < bits::bytes_for(word.len()) {
         return Status::Refused(Refusal::InputLength);
     }
     write_bits(bytes, word);

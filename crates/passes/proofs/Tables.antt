@@ -10,9 +10,9 @@ use Rattle.tanner.specs.Flat.{Below}
 use Rattle.slots.specs.Layout.{Slotted, slotEdges, padPlaces, threeAt}
 use Rattle.staircase.specs.Codes.{checks}
 use Rattle.staircase.specs.Shape.{stairs}
-use Rattle.staircase.proofs.N512R12.{taps0, taps-right0, places0, places-right0}
-use Rattle.staircase.proofs.N576R23.{taps1, taps-right1, places1, places-right1}
-use Rattle.staircase.proofs.N512R34.{taps2, taps-right2, places2, places-right2}
+use Rattle.n512r12.proofs.Tables.{taps0, taps-right0, places0, places-right0}
+use Rattle.n576r23.proofs.Tables.{taps1, taps-right1, places1, places-right1}
+use Rattle.n512r34.proofs.Tables.{taps2, taps-right2, places2, places-right2}
 use Rattle.stairs.specs.Stairs.{Stairs}
 use Rattle.stairs.proofs.Codes.{allBelow, tested, stairs0, stairs1, stairs2}
 use Rattle.stairs.proofs.BySlots.{stairs-slotted, stairs-pads, stairs-edges}
@@ -20,7 +20,7 @@ use Rattle.ldpc.specs.Code174 as code174
 use Rattle.ldpc.proofs.Arrays.{slotEdge, slotPads}
 use Rattle.ldpc.proofs.BySlots.{slotted, pads-right, edges-size, edges-low}
 use Rattle.variable_node.specs.Passes.{Listed}
-use Rattle.passes.specs.Codes.{sizeN, sizeM, checksBy, degree, room}
+use Rattle.passes.specs.Codes.{sizeM, checksBy, degree, room}
 use Rattle.passes.specs.Passes.{StairEdges}
 
 -- ---- a staircase code, from its taps
@@ -99,13 +99,7 @@ slotted-by (suc zero) = stair-slotted n576r23 6 576 taps1 (stairs1 576 (omega ar
 slotted-by (suc (suc zero)) = stair-slotted n512r34 9 512 taps2 (stairs2 512 (omega arith)) taps-right2
 slotted-by (suc (suc (suc n))) = slotted
 
--- ---- lengths at a code that a test has found
-
-pub size-at : (code i n : ℕ) → code ≡ i → n ≡ sizeN code → n ≡ sizeN i
-size-at code i n e h = rw e at h
+-- ---- the room at a code that a test has found
 
 pub room-at : (code i n : ℕ) → code ≡ i → n ≡ room code → n ≡ room i
 room-at code i n e h = rw e at h
-
-pub last-code : (code : ℕ) → code < 4 → (code ≡ 0 → ⊥) → (code ≡ 1 → ⊥) → (code ≡ 2 → ⊥) → code ≡ 3
-last-code code l a b c = omega arith

@@ -11,7 +11,8 @@ use Rattle.softmath.specs.declared.SumKind.{SumKind}
 use Rattle.softmath.specs.declared.SumKind.the-variants.{Total}
 use Rattle.tanner.specs.Checks.{Checks}
 use Rattle.slots.specs.Layout.{slotEdges, scattered, threeAt}
-use Rattle.variable_node.specs.Passes.{turns, Pass, bitDone, threeTurn, threeFirst, parityTurn, parityFirst}
+use Rattle.variable_node.specs.Passes.{turns, Pass, bitDone, threeTurn, threeFirst}
+use Rattle.parity_node.specs.Parity.{parityTurn, parityFirst}
 use Rattle.passes.specs.Passes.{slotFirst, slotTurn, StairEdges}
 
 module _ {A : Type 0} (h : ℕ → A → A) where

@@ -1,4 +1,4 @@
-// The passes of a round at each of the four codes: the one place that names a code's tables and sizes, as numbers that the compiler sees.
+// The passes of a round at each of the four codes: the one place that names the tables of a code's edges, and its sizes as numbers that the compiler sees.
 // A function a code names its table, since a constant is laid where the function that names it starts.
 ghost use mathlib.Core.Path.{_≡_};
 ghost use Prim.Native.Nat.{_+_, _<_, _≤_};
@@ -6,11 +6,10 @@ ghost use lib.ListN.{length};
 ghost use Rattle.softmath.specs.CheckNode.{checkStep};
 ghost use Rattle.softmath.specs.declared.SumKind.the-variants.{Total};
 ghost use Rattle.tanner.specs.Checks.{Checks};
-ghost use Rattle.tanner.specs.Masked.{countMasked, firstMasked};
-ghost use Rattle.tanner.specs.Found.{firstOf};
 ghost use Rattle.slots.specs.Layout.{scattered, padPlaces};
 ghost use Rattle.check_node.specs.CheckStep.{AtColumns, padOf};
-ghost use Rattle.variable_node.specs.Passes.{turns, passOf, Listed, Paired};
+ghost use Rattle.variable_node.specs.Passes.{turns, passOf, Listed};
+ghost use Rattle.parity_node.specs.Parity.{Paired};
 ghost use Rattle.passes.specs.Codes.{sizeN, sizeM, checksBy, kindBy, degree, room};
 ghost use Rattle.passes.specs.Passes.{slotFirst, slotTurn, StairEdges};
 use ldpc::tables::EDGES;
@@ -18,12 +17,8 @@ use ldpc::tables::PADS;
 use softmath::DecodeRule;
 use softmath::SumKind;
 use staircase::tables::N512R12_EDGES;
-use staircase::tables::N512R12_TAPS;
 use staircase::tables::N512R34_EDGES;
-use staircase::tables::N512R34_TAPS;
 use staircase::tables::N576R23_EDGES;
-use staircase::tables::N576R23_TAPS;
-use tanner::FirstCheck;
 
 // The place after row 0's last entry, which the other rows have: a staircase code's only pad.
 const N512R12_PADS: [u16; 1] = [1024];
@@ -61,7 +56,7 @@ fn stair_first(k: usize, m: usize, from: usize, table: &[u16], llr: &[f32], mess
         → now (messages .exit) ≡ turns (slotFirst cs m (now (llr .entry))) (k + m) (now (messages .entry))) ⌝ }
 {
     variable_node::listed_first(k, llr, table, messages);
-    variable_node::parity_first(k, m, from, llr, messages);
+    parity_node::parity_first(k, m, from, llr, messages);
 }
 
 // Each code's.
@@ -162,7 +157,7 @@ fn stair_bits(
         ≡ turns (slotTurn cs m Total (now (llr .entry))) (k + m) (passOf (now (hard .entry)) (now (messages .entry)))) ⌝ }
 {
     variable_node::listed_bits(SumKind::Total, k, llr, table, messages, hard);
-    variable_node::parity_bits(k, m, from, llr, messages, hard);
+    parity_node::parity_bits(k, m, from, llr, messages, hard);
 }
 
 // Each code's.
@@ -230,90 +225,4 @@ pub fn bit_pass(code: u32, llr: &[f32], messages: &mut [f32], hard: &mut [u8])
         return bits_n512r34(llr, messages, hard);
     }
     bits_ft8(llr, messages, hard)
-}
-
-// ---- the count
-
-// Each staircase code's.
-fn count_n512r12(hard: &[u8]) -> u16
-    requires { ⌜ length (now hard) ≡ sizeN 0 ⌝ }
-    ensures { λ r. ⌜ r ≡ countMasked 1 (checksBy 0) (now (hard .entry)) ⌝ }
-{
-    stairs::count(3, 256, 256, &N512R12_TAPS, hard)
-}
-
-fn count_n576r23(hard: &[u8]) -> u16
-    requires { ⌜ length (now hard) ≡ sizeN 1 ⌝ }
-    ensures { λ r. ⌜ r ≡ countMasked 1 (checksBy 1) (now (hard .entry)) ⌝ }
-{
-    stairs::count(6, 384, 192, &N576R23_TAPS, hard)
-}
-
-fn count_n512r34(hard: &[u8]) -> u16
-    requires { ⌜ length (now hard) ≡ sizeN 2 ⌝ }
-    ensures { λ r. ⌜ r ≡ countMasked 1 (checksBy 2) (now (hard .entry)) ⌝ }
-{
-    stairs::count(9, 384, 128, &N512R34_TAPS, hard)
-}
-
-// How many checks the low bits of a word leave unsatisfied.
-pub fn count(code: u32, hard: &[u8]) -> u16
-    requires { ⌜ code < 4 ⌝ }
-    requires { ⌜ length (now hard) ≡ sizeN code ⌝ }
-    ensures { λ r. ⌜ r ≡ countMasked 1 (checksBy code) (now (hard .entry)) ⌝ }
-{
-    if code == 0 {
-        return count_n512r12(hard);
-    }
-    if code == 1 {
-        return count_n576r23(hard);
-    }
-    if code == 2 {
-        return count_n512r34(hard);
-    }
-    ldpc::count_low(hard)
-}
-
-// The first row of each staircase code.
-fn row_n512r12(hard: &[u8]) -> FirstCheck
-    requires { ⌜ length (now hard) ≡ sizeN 0 ⌝ }
-    ensures { λ r. ⌜ firstOf r ≡ firstMasked 1 (checksBy 0) (now (hard .entry)) ⌝ }
-{
-    stairs::first_row(3, 256, 256, &N512R12_TAPS, hard)
-}
-
-fn row_n576r23(hard: &[u8]) -> FirstCheck
-    requires { ⌜ length (now hard) ≡ sizeN 1 ⌝ }
-    ensures { λ r. ⌜ firstOf r ≡ firstMasked 1 (checksBy 1) (now (hard .entry)) ⌝ }
-{
-    stairs::first_row(6, 384, 192, &N576R23_TAPS, hard)
-}
-
-fn row_n512r34(hard: &[u8]) -> FirstCheck
-    requires { ⌜ length (now hard) ≡ sizeN 2 ⌝ }
-    ensures { λ r. ⌜ firstOf r ≡ firstMasked 1 (checksBy 2) (now (hard .entry)) ⌝ }
-{
-    stairs::first_row(9, 384, 128, &N512R34_TAPS, hard)
-}
-
-// The first of them, of a word whose count is known: the scan is spared where the count is 0.
-pub fn first_counted(code: u32, count: u16, hard: &[u8]) -> FirstCheck
-    requires { ⌜ code < 4 ⌝ }
-    requires { ⌜ length (now hard) ≡ sizeN code ⌝ }
-    requires { ⌜ count ≡ countMasked 1 (checksBy code) (now hard) ⌝ }
-    ensures { λ r. ⌜ firstOf r ≡ firstMasked 1 (checksBy code) (now (hard .entry)) ⌝ }
-{
-    if count == 0 {
-        return FirstCheck::Satisfied;
-    }
-    if code == 0 {
-        return row_n512r12(hard);
-    }
-    if code == 1 {
-        return row_n576r23(hard);
-    }
-    if code == 2 {
-        return row_n512r34(hard);
-    }
-    ldpc::first_low(hard)
 }

@@ -4,7 +4,7 @@ use mathlib.Core.List.{List}
 use lib.Ieee.{Float, binary32, ofBits, ofFields, neg, isNan, odd, le, lt, eq}
 use lib.ListN.{replicate}
 use Rattle.bits.specs.Bits.{numberAfter}
-use Rattle.crc.specs.Qex.{bringDown, divide, qex}
+use Rattle.checksum.specs.Qex.{bringDown, divide, qex}
 use Rattle.tanner.specs.Checks.{lowBits, parity, count, firstBy}
 use Rattle.ldpc.specs.Tables.{nm, numRows}
 use Rattle.ldpc.specs.Code174.{rowsOfSeven, checks}

@@ -35,7 +35,7 @@ pub fn find_reason(
     ensures { λ _. ⌜ now (word .exit) ≡ chosen (decodeOf code rule scale (now (values .entry))) limit ⌝ }
     ensures { λ _. ⌜ now (work .exit) ≡ cleared (now (work .entry)) ⌝ }
 {
-    let told = batch::decode_frame(code, rule, scale, limit, values, word, work);
+    let told = one_frame::decode_frame(code, rule, scale, limit, values, word, work);
     work_area::clear_area(work);
     let first = told.first;
     first_reason::reason_of(code, first, values, word)

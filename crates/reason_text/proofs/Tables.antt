@@ -13,9 +13,9 @@ use Rattle.tanner.specs.Checks.{Word, Checks}
 use Rattle.tanner.specs.Flat.{joined, offsets, rowsOf, FlatChecks}
 use Rattle.tanner.proofs.Flat.{rows-laid, row-at, offsets-length}
 use Rattle.staircase.specs.Codes.{checks}
-use Rattle.staircase.proofs.N512R12.{checkStarts0, checkBits0, check-starts-right0, check-bits-right0}
-use Rattle.staircase.proofs.N576R23.{checkStarts1, checkBits1, check-starts-right1, check-bits-right1}
-use Rattle.staircase.proofs.N512R34.{checkStarts2, checkBits2, check-starts-right2, check-bits-right2}
+use Rattle.n512r12.proofs.Tables.{checkStarts0, checkBits0, check-starts-right0, check-bits-right0}
+use Rattle.n576r23.proofs.Tables.{checkStarts1, checkBits1, check-starts-right1, check-bits-right1}
+use Rattle.n512r34.proofs.Tables.{checkStarts2, checkBits2, check-starts-right2, check-bits-right2}
 use Rattle.staircase.proofs.Positions.{checks-many}
 use Rattle.ldpc_codes.proofs.Laid.{laid-flat}
 use Rattle.ldpc.specs.Code174 as code174

@@ -26,9 +26,9 @@ use Rattle.walks.proofs.Plain.{nat, real, datum}
 use Rattle.walks.proofs.Args.{Param, plain-param, shared-slice, kept-slice}
 use Rattle.walks.proofs.Loans.{Loan, hand, lend-slice, pass-slice}
 use Rattle.batch.specs.Calls.{Lent, lent, Batch, batch}
-use Rattle.records.specs.declared.Pair.{Pair}
-use Rattle.records.specs.Fields.{pairsOf}
-use Rattle.records.proofs.Types.{pair}
+use Rattle.record_check.specs.declared.Pair.{Pair}
+use Rattle.record_check.specs.Fields.{pairsOf}
+use Rattle.record_check.proofs.Types.{pair}
 
 abbrev pub params : List (Param 7)
 params =

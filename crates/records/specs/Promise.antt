@@ -6,8 +6,8 @@ use Rattle.refusal.specs.declared.Status.{Status}
 use Rattle.refusal.specs.Answers.{statusOf}
 use Rattle.batch.specs.Calls.{Lent, batch, Answered}
 use Rattle.batch.specs.Promise.{Call}
-use Rattle.records.specs.declared.Pair.{Pair}
-use Rattle.records.specs.Fields.{pairsOf}
+use Rattle.record_check.specs.declared.Pair.{Pair}
+use Rattle.record_check.specs.Fields.{pairsOf}
 
 -- a call that was made: what was handed over, what it answered, what it left in the lent memory; by the contract of `decode_pairs`
 pub record RecordsCall : Type 0 where

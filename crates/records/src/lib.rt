@@ -1,61 +1,16 @@
-// The batch over a lent list of pair records. They are read where they lie, by a thin check and a thin batch call: a record at a time, which is
-// taken by value from there on. Crate `batch` does the work.
+// The batch over a lent list of pair records. They are read where they lie, by a thin batch call: a record at a time, which is taken by value from
+// there on. Crate `one_frame` does the work; the check is `record_check`'s.
 use batch_refusals::Room;
-use batch_refusals::Seen;
+use record_check::Pair;
 use refusal::Status;
 ghost use mathlib.Core.Path.{_≡_};
-ghost use Rattle.refusal.specs.Outcome.{judged};
 ghost use Rattle.refusal.specs.Answers.{statusOf};
 ghost use Rattle.work_area.specs.Area.{cleared};
 ghost use Rattle.batch.specs.Codes.{sizeN, sizeK, decodeOf};
 ghost use Rattle.batch.specs.Pairs.{pair, frameOf};
-ghost use Rattle.batch.specs.Calls.{lent, batch, refusalsOf, written, Answered};
-ghost use Rattle.batch.specs.Steps.{seenOf, nextSeen, Fitting, PlaceFits, placed};
-ghost use Rattle.records.specs.Fields.{pairOf, pairsOf, isRefused};
-
-// A pair: where a frame's values begin, and how many they are. It lies in memory as C lays out two numbers.
-#[repr(C)]
-pub struct Pair {
-    pub offset: u32,
-    pub length: u32,
-}
-
-// Whether a call is turned down.
-fn turned_down(status: Status) -> bool
-    ensures { λ r. ⌜ r ≡ isRefused (statusOf status) ⌝ }
-{
-    if let Status::Refused(_) = status {
-        return true;
-    }
-    false
-}
-
-// One record more in the check.
-fn next_record(seen: Seen, n: usize, values: usize, p: Pair) -> Seen
-    ensures { λ r. ⌜ seenOf r ≡ nextSeen n values (seenOf seen) (pairOf p) ⌝ }
-{
-    batch_refusals::next_pair(seen, n, values, p.offset, p.length)
-}
-
-// The check: whether a batch over these records is turned down, and by which number. The records are read where the numbers and the lengths,
-// that of the list among them, are good.
-pub fn batch_fault(code: u32, rule: u32, values: usize, pairs: &[Pair], room: Room) -> Status
-    ensures { λ r. ⌜ statusOf r ≡ judged (refusalsOf code rule values (pairsOf (now (pairs .entry))) room) tt ⌝ }
-{
-    let head = batch_refusals::head_fault(code, rule, pairs.len(), room);
-    if turned_down(head) {
-        return head;
-    }
-    let n = batch_refusals::frame_values(code);
-    let mut seen = Seen::Until(0);
-    let mut i = 0;
-    while i < pairs.len() {
-        let p = pairs[i];
-        seen = next_record(seen, n, values, p);
-        i += 1;
-    }
-    batch_refusals::seen_all(seen)
-}
+ghost use Rattle.batch.specs.Calls.{lent, batch, written, Answered};
+ghost use Rattle.batch.specs.Steps.{Fitting, PlaceFits, placed};
+ghost use Rattle.record_check.specs.Fields.{pairsOf};
 
 // The frame of one record, decoded to place j of each output.
 fn decode_record(
@@ -77,7 +32,7 @@ fn decode_record(
         ≡ placed (decodeOf code rule scale (frameOf (now (values .entry)) (pair (p .offset) (sizeN code)))) limit (sizeK code) j
         (lent (now (bits .entry)) (now (counts .entry)) (now (rounds .entry)) (now (firsts .entry)) (now (work .entry))) ⌝ }
 {
-    batch::decode_place(
+    one_frame::decode_place(
         code,
         rule,
         scale,
@@ -162,8 +117,8 @@ pub fn decode_pairs(
         firsts: firsts.len(),
         work: work.len(),
     };
-    let told = batch_fault(code, rule, values.len(), pairs, room);
-    if turned_down(told) {
+    let told = record_check::batch_fault(code, rule, values.len(), pairs, room);
+    if record_check::turned_down(told) {
         return told;
     }
     decode_records(

@@ -45,7 +45,7 @@ pub fn rounds(
         done += 1;
         if found < kept.count {
             work_area::keep_word(hard, bits);
-            let lowest = passes::first_counted(code, found, hard);
+            let lowest = counting::first_counted(code, found, hard);
             kept = Counted {
                 count: found,
                 first: lowest,

@@ -13,8 +13,8 @@ use lib.Ieee.{Float, nan, binary32, fits, lt, eq}
 use Rattle.softmath.specs.Single.{foldFrom}
 use Rattle.softmath.specs.Functions.{magnitudeOf}
 use Rattle.softmath.specs.CheckNode.{turned, minSum}
-use Rattle.softmath.specs.Others.{lesserOf, turnedBy, othersSum}
-use Rattle.softmath.proofs.ByOthers.{answersFrom, others-shared, own-sign-out, same-answers}
+use Rattle.by_others.specs.Others.{lesserOf, turnedBy, othersSum}
+use Rattle.by_others.proofs.ByOthers.{answersFrom, others-shared, own-sign-out, same-answers}
 use Rattle.slot_minima.specs.Cells.{Cell, Fit, more, fresh, leastWith, secondWith, noted, notedAll, pick, answerTo}
 use Rattle.slot_minima.proofs.Magnitudes.{Mag, infinite, Sized, unknown, known, sized, equal-same}
 use Rattle.slot_minima.proofs.Magnitudes.{level-same, equal-self, not-self, not-both, below-upper, lower-below, under-infinity, not-negative}

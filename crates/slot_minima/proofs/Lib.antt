@@ -2,4 +2,3 @@ pub mod Magnitudes
 pub mod Cells
 pub mod CellSlots
 pub mod CellColumns
-pub mod OneColumn

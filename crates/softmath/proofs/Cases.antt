@@ -6,14 +6,13 @@ use Prim.Native.Nat.{ℕ}
 use lib.Ieee.{Float, nan, binary32, round, add, mul, div, neg, lt, ofBits}
 use Rattle.softmath.specs.Single.{zero32, one32, two32, foldFrom}
 use Rattle.softmath.specs.Functions.{tanh, atanh, magnitudeOf}
-use Rattle.softmath.specs.CheckNode.{overOthers, checkStep, minSum, minimaOf, minimaFrom, seen, minAnswer, minAnswers}
-use Rattle.softmath.specs.Others.{othersSum}
+use Rattle.softmath.specs.CheckNode.{checkStep, minSum, minimaOf, minimaFrom, seen, minAnswer, minAnswers}
 use Rattle.softmath.specs.VariableNode.{decisionSum, messageTotal}
 use Rattle.softmath.specs.declared.DecodeRule.the-variants.{MinSum}
 use Rattle.softmath.proofs.ZeroStart.{minusZero32}
 
 -- 3.0, and 16,777,216 with its next number
-abbrev three32 : Float
+abbrev pub three32 : Float
 three32 = ofBits binary32 0x40400000
 
 abbrev large32 : Float
@@ -26,11 +25,6 @@ next32 = ofBits binary32 0x4b800001
 pub min-sum-case : checkStep MinSum (two32 ∷ neg three32 ∷ two32 ∷ nan ∷ []) ≡ neg two32 ∷ two32 ∷ neg two32 ∷ neg two32 ∷ []
 unfolding checkStep minSum minimaOf minimaFrom seen minAnswer minAnswers magnitudeOf ofBits neg lt mul
 min-sum-case = refl
-
--- the same from each entry's others
-pub others-case : othersSum one32 (two32 ∷ neg three32 ∷ two32 ∷ nan ∷ []) ≡ neg two32 ∷ two32 ∷ neg two32 ∷ neg two32 ∷ []
-unfolding othersSum overOthers foldFrom magnitudeOf ofBits neg lt mul
-others-case = refl
 
 -- "`fast_tanh` of 1.0 is 1051/1380 rounded; of 5.0, 1.0. `fast_atanh` of 1.0 is 274/120 rounded."
 abbrev rounded : ℕ → ℕ → Float

@@ -1,7 +1,6 @@
 pub mod InPlace
 pub mod LeaveOneOut
 pub mod Signless
-pub mod ByOthers
 pub mod Steps
 pub mod Messages
 pub mod ZeroStart

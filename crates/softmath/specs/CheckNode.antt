@@ -97,6 +97,13 @@ checkStep MinSum ms = minSum one32 ms
 checkStep (ScaledMinSum scale) ms = minSum scale ms
 checkStep Ft8 ms = atEach ft8Answer ms
 
+-- what a min-sum rule multiplies its answers by; the rules that multiply have no use for it
+unfoldable pub factorOf : DecodeRule → Float
+factorOf SumProduct = one32
+factorOf MinSum = one32
+factorOf (ScaledMinSum scale) = scale
+factorOf Ft8 = one32
+
 -- ---- the same in three parts: each message by itself, the messages of a check together, each answer by itself
 
 unfoldable pub before : DecodeRule → Float → Float

@@ -1,5 +1,4 @@
 pub mod Single
 pub mod Functions
 pub mod CheckNode
-pub mod Others
 pub mod VariableNode

@@ -1,14 +1,9 @@
-// The f32 arithmetic of a decoding round that needs no layout: the functions, each message and each answer by itself, and the second engine of min-sum.
-// Each operation is rounded once, in a fixed order.
+// The f32 arithmetic of a decoding round: the functions of one or two values. Each operation is rounded once, in a fixed order.
 ghost use mathlib.Core.Path.{_≡_};
 ghost use mathlib.Core.Bool.{cond};
-ghost use mathlib.Core.List.{map, _++_};
 ghost use lib.Ieee.{neg, lt};
-ghost use lib.ListN.{length};
-ghost use Rattle.softmath.specs.Single.{_⊘_, foldFrom};
 ghost use Rattle.softmath.specs.Functions.{tanh, atanh, clampUnit, magnitudeOf, decide};
-ghost use Rattle.softmath.specs.CheckNode.{turned, clampedAnswer, negatedAnswer, before, after};
-ghost use Rattle.softmath.specs.Others.{lesserOf, turnedBy, othersAnswer, othersSum};
+ghost use Rattle.softmath.specs.CheckNode.{turned, factorOf};
 
 // How a check answers: the three rules of the staircase codes, and (174,91)'s own.
 pub enum DecodeRule {
@@ -84,35 +79,6 @@ pub fn decide(x: f32) -> u8
     if x <= 0.0 { 1 } else { 0 }
 }
 
-// ---- the check step
-
-// The tanh of each message over the divisor.
-fn tanh_over(divisor: f32, part: &mut [f32])
-    ensures { λ _. ⌜ now (part .exit) ≡ map (λ m. tanh (m ⊘ divisor)) (now (part .entry)) ⌝ }
-{
-    let mut i = 0;
-    while i < part.len() {
-        part[i] = fast_tanh(part[i] / divisor);
-        i += 1;
-    }
-}
-
-// What a rule does to each message by itself, before the checks take theirs together: any part of the work area.
-pub fn before_checks(rule: DecodeRule, part: &mut [f32])
-    ensures { λ _. ⌜ now (part .exit) ≡ map (before rule) (now (part .entry)) ⌝ }
-{
-    match rule {
-        DecodeRule::SumProduct => {
-            tanh_over(2.0, part);
-        }
-        DecodeRule::Ft8 => {
-            tanh_over(-2.0, part);
-        }
-        DecodeRule::MinSum => {}
-        DecodeRule::ScaledMinSum(_) => {}
-    }
-}
-
 // The sign with v's: a NaN and -0.0 are not negative.
 pub fn turn_sign(v: f32, sign: f32) -> f32
     ensures { λ r. ⌜ r ≡ turned v sign ⌝ }
@@ -127,86 +93,14 @@ pub fn lesser(a: f32, b: f32) -> f32
     if a < b { a } else { b }
 }
 
-// The least magnitude of the part's, and of `start`.
-fn least_from(start: f32, part: &[f32]) -> f32
-    ensures { λ r. ⌜ r ≡ foldFrom lesserOf start (now (part .entry)) ⌝ }
-{
-    let mut least = start;
-    let mut i = 0;
-    while i < part.len() {
-        least = lesser(magnitude(part[i]), least);
-        i += 1;
-    }
-    least
-}
-
-// The sign `start`, turned by each negative one of the part.
-fn sign_from(start: f32, part: &[f32]) -> f32
-    ensures { λ r. ⌜ r ≡ foldFrom turnedBy start (now (part .entry)) ⌝ }
-{
-    let mut sign = start;
-    let mut i = 0;
-    while i < part.len() {
-        sign = turn_sign(part[i], sign);
-        i += 1;
-    }
-    sign
-}
-
-// The answer to an entry, from its others alone: those before it and those after it, gone through in row order.
-fn others_answer(scale: f32, before: &[f32], after: &[f32]) -> f32
-    ensures { λ r. ⌜ r ≡ othersAnswer scale (now (before .entry) ++ now (after .entry)) ⌝ }
-{
-    let sign = sign_from(sign_from(1.0, before), after);
-    scale * sign * least_from(least_from(1.0 / 0.0, before), after)
-}
-
-// The second engine of min-sum: for each entry it goes through the other entries for their least magnitude and their sign.
-pub fn min_sum_by_others(scale: f32, messages: &[f32], answers: &mut [f32])
-    requires { ⌜ length (now answers) ≡ length (now messages) ⌝ }
-    ensures { λ _. ⌜ now (answers .exit) ≡ othersSum scale (now (messages .entry)) ⌝ }
-{
-    let mut i = 0;
-    while i < messages.len() {
-        answers[i] = others_answer(scale, &messages[..i], &messages[i + 1..]);
-        i += 1;
-    }
-}
-
-// 2.0 times the atanh of each product, clamped.
-fn clamped_answers(part: &mut [f32])
-    ensures { λ _. ⌜ now (part .exit) ≡ map clampedAnswer (now (part .entry)) ⌝ }
-{
-    let mut i = 0;
-    while i < part.len() {
-        part[i] = 2.0 * fast_atanh(clamp_unit(part[i]));
-        i += 1;
-    }
-}
-
-// -2.0 times the atanh of each product.
-fn negated_answers(part: &mut [f32])
-    ensures { λ _. ⌜ now (part .exit) ≡ map negatedAnswer (now (part .entry)) ⌝ }
-{
-    let mut i = 0;
-    while i < part.len() {
-        part[i] = -2.0 * fast_atanh(part[i]);
-        i += 1;
-    }
-}
-
-// What a rule does to each answer by itself, after the checks: any part of the work area.
-pub fn after_checks(rule: DecodeRule, part: &mut [f32])
-    ensures { λ _. ⌜ now (part .exit) ≡ map (after rule) (now (part .entry)) ⌝ }
+// What a min-sum rule multiplies its answers by.
+pub fn factor_of(rule: DecodeRule) -> f32
+    ensures { λ r. ⌜ r ≡ factorOf rule ⌝ }
 {
     match rule {
-        DecodeRule::SumProduct => {
-            clamped_answers(part);
-        }
-        DecodeRule::Ft8 => {
-            negated_answers(part);
-        }
-        DecodeRule::MinSum => {}
-        DecodeRule::ScaledMinSum(_) => {}
+        DecodeRule::SumProduct => 1.0,
+        DecodeRule::MinSum => 1.0,
+        DecodeRule::ScaledMinSum(scale) => scale,
+        DecodeRule::Ft8 => 1.0,
     }
 }

@@ -106,7 +106,7 @@ fn check(rule: DecodeRule, floats: &mut [f32], n: usize) {
 fn step_by_others(scale: f32, messages: &[f32], answers: &mut [f32])
     requires { ⌜ length (now answers) ≡ length (now messages) ⌝ }
 {
-    softmath::min_sum_by_others(scale, messages, answers);
+    by_others::min_sum_by_others(scale, messages, answers);
     print_floats(answers);
 }
 
@@ -143,7 +143,7 @@ fn parity(llr: f32, floats: &mut [f32])
 {
     let values = [llr; 3];
     let mut hard = [0u8; 3];
-    variable_node::parity_bits(0, 3, 3, &values, floats, &mut hard);
+    parity_node::parity_bits(0, 3, 3, &values, floats, &mut hard);
     print_bit(hard[0]);
     print_bit(hard[1]);
     print_bit(hard[2]);

@@ -8,9 +8,9 @@ use native.Mathlib.Omega.{arith}
 use borrow.Author.Tests.{ltb-true}
 use lib.Dec.{ltb}
 use Rattle.tanner.specs.Flat.{Below}
-use Rattle.staircase.proofs.N512R12.{taps0}
-use Rattle.staircase.proofs.N576R23.{taps1}
-use Rattle.staircase.proofs.N512R34.{taps2}
+use Rattle.n512r12.proofs.Tables.{taps0}
+use Rattle.n576r23.proofs.Tables.{taps1}
+use Rattle.n512r34.proofs.Tables.{taps2}
 use Rattle.stairs.specs.Stairs.{Stairs}
 
 -- a test of every entry

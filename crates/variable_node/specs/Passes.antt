@@ -1,6 +1,6 @@
 -- The passes over the bits of a code whose messages lie by slots: bit by bit, the decision into the word and the new messages in place of the answers.
 use mathlib.Core.List.{List}
-use Prim.Native.Nat.{ℕ, zero, suc, _+_, _*_, _<_, _≤_}
+use Prim.Native.Nat.{ℕ, zero, suc, _*_, _≤_}
 use lib.Ieee.{Float, nan}
 use lib.ListN.{length, getD, set}
 use Rattle.softmath.specs.Single.{_⊕_, _⊖_}
@@ -9,7 +9,7 @@ use Rattle.softmath.specs.VariableNode.{decisionSum, newMessages, answersAt, pu
 use Rattle.softmath.specs.declared.SumKind.{SumKind}
 use Rattle.softmath.specs.declared.SumKind.the-variants.{Total, Others}
 use Rattle.tanner.specs.Flat.{Below}
-use Rattle.slots.specs.Layout.{threeAt, parityPlaces, scattered}
+use Rattle.slots.specs.Layout.{threeAt, scattered}
 
 -- the turns 0 to n - 1, one after the other
 unfoldable pub turns : {A : Type 0} → (ℕ → A → A) → ℕ → A → A
@@ -50,17 +50,3 @@ threeFirst llr table b w = scattered (getD llr b nan) (threeAt table b) w
 pub record Listed (n : ℕ) (table : List ℕ) (room : ℕ) : Type 0 where
   pub size : n * 3 ≤ length table
   pub low : Below room table
-
--- ---- the parity bits of a staircase code, from position k on: their edges lie in two slots of m, the first of which starts at `from`
-
--- turn i: parity bit i
-unfoldable pub parityTurn : List Float → ℕ → ℕ → ℕ → ℕ → Pass → Pass
-parityTurn llr k m from i s = bitDone Total (getD llr (k + i) nan) (parityPlaces from m i) (k + i) s
-
-unfoldable pub parityFirst : List Float → ℕ → ℕ → ℕ → ℕ → List Float → List Float
-parityFirst llr k m from i w = scattered (getD llr (k + i) nan) (parityPlaces from m i) w
-
--- the two slots lie in a work area of `room` messages
-pub record Paired (m from room : ℕ) : Type 0 where
-  pub some : 0 < m
-  pub fits : from + m + m ≤ room

@@ -5,7 +5,7 @@ use Prim.Native.Nat.{ℕ}
 use lib.Ieee.{ofBits, ofFields, isNan, odd, le, lt, eq}
 use lib.ListN.{replicate}
 use Rattle.bits.specs.Bits.{numberAfter}
-use Rattle.crc.specs.Qex.{bringDown, divide, qex}
+use Rattle.checksum.specs.Qex.{bringDown, divide, qex}
 use Rattle.tanner.specs.Checks.{lowBits, parity, count, firstBy}
 use Rattle.tanner.specs.Flat.{joined}
 use Rattle.ldpc.specs.Tables.{nm, numRows}

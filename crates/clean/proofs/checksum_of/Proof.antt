@@ -6,8 +6,8 @@ use lib.Bits.{bitXor}
 use lib.ListN.{length, take}
 use lib.Seq.{take-all}
 use borrow.Author.Needs.{needs}
-use Rattle.crc.specs.Qex.{qex}
-use Rattle.crc.specs.Register.{turn}
+use Rattle.checksum.specs.Qex.{qex}
+use Rattle.checksum.specs.Register.{turn}
 use Rattle.clean.proofs.Steps.{padded, padded-length, checksum-lt, checksum-start, checksum-more}
 use Rattle.clean.proofs.checksum_of.Statement.{statement}
 use Rattle.clean.proofs.checksum_of.Tie as tie

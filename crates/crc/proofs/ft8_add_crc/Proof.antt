@@ -9,7 +9,7 @@ use borrow.Author.Tests.{eq-eqb, ne-eqb}
 use denote.Ref.{now}
 use lib.Pow.{pow-pos}
 use Rattle.crc.specs.Bytes.{stored}
-use Rattle.crc.specs.Register.{register, crc14}
+use Rattle.checksum.specs.Register.{register, crc14}
 use Rattle.bits.proofs.Digits.{Bytes}
 use Rattle.crc.proofs.Places.{laid-checksum, block-stored}
 use Rattle.crc.proofs.ft8_add_crc.Statement.{statement}

@@ -5,8 +5,8 @@ use native.Mathlib.Omega.{arith}
 use borrow.Author.Tests.{lt-ltb, le-ltb}
 use denote.Ref.{now}
 use lib.ListN.{length}
-use Rattle.crc.specs.Calls.{bytesFor}
 use Rattle.refusal.specs.Outcome.{accepted}
+use Rattle.bits.specs.Bits.{bytesFor}
 use borrow.Author.Needs.{needs}
 use Rattle.crc.proofs.ft8_crc14.Statement.{statement}
 use Rattle.crc.proofs.ft8_crc14.Tie as tie

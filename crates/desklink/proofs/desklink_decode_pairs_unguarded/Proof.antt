@@ -27,8 +27,8 @@ use Rattle.walks.proofs.Frame.{begins, loc, args, stores-plain, passes-on, retu
 use Rattle.walks.proofs.Loans.{Loan, lent-args, takes, calls-lent, own-args, gathers, scatters}
 use Rattle.walks.proofs.Walk.{Walk, walking, meets-by}
 use Rattle.batch.specs.Calls.{Lent, Batch, Answered}
-use Rattle.records.specs.declared.Pair.{Pair}
-use Rattle.records.proofs.Types.{status}
+use Rattle.record_check.specs.declared.Pair.{Pair}
+use Rattle.record_check.proofs.Types.{status}
 use Rattle.records.proofs.Lists.{params, Numbers, Handles, Sizes, handed, mine, left, all-lasts, numbers-of, handles, contents, sizes-of}
 use Rattle.records.proofs.decode_pairs as pairs
 use Rattle.records.proofs.decode_pairs.Symbol as pairs-def

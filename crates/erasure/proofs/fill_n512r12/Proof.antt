@@ -1,7 +1,7 @@
 -- `erasure::fill_n512r12` meets its contract: the code's flat tables hold its checks. Assumes nothing.
 use native.Mathlib.Omega.{arith}
 use Rattle.construction.specs.Codes.{n512r12}
-use Rattle.staircase.proofs.N512R12.{checkStarts0, checkBits0, check-starts-right0, check-bits-right0}
+use Rattle.n512r12.proofs.Tables.{checkStarts0, checkBits0, check-starts-right0, check-bits-right0}
 use Rattle.ldpc_codes.proofs.Laid.{laid-flat}
 use Rattle.erasure.proofs.Answers.{staircase-rows, at-checks}
 use Rattle.numbered.specs.Codes.{sizeN, checksBy}

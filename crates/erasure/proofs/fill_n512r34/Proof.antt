@@ -1,7 +1,7 @@
 -- `erasure::fill_n512r34` meets its contract: the code's flat tables hold its checks. Assumes nothing.
 use native.Mathlib.Omega.{arith}
 use Rattle.construction.specs.Codes.{n512r34}
-use Rattle.staircase.proofs.N512R34.{checkStarts2, checkBits2, check-starts-right2, check-bits-right2}
+use Rattle.n512r34.proofs.Tables.{checkStarts2, checkBits2, check-starts-right2, check-bits-right2}
 use Rattle.ldpc_codes.proofs.Laid.{laid-flat}
 use Rattle.erasure.proofs.Answers.{staircase-rows, at-checks}
 use Rattle.numbered.specs.Codes.{sizeN, checksBy}

@@ -1,7 +1,7 @@
 -- `erasure::fill_n576r23` meets its contract: the code's flat tables hold its checks. Assumes nothing.
 use native.Mathlib.Omega.{arith}
 use Rattle.construction.specs.Codes.{n576r23}
-use Rattle.staircase.proofs.N576R23.{checkStarts1, checkBits1, check-starts-right1, check-bits-right1}
+use Rattle.n576r23.proofs.Tables.{checkStarts1, checkBits1, check-starts-right1, check-bits-right1}
 use Rattle.ldpc_codes.proofs.Laid.{laid-flat}
 use Rattle.erasure.proofs.Answers.{staircase-rows, at-checks}
 use Rattle.numbered.specs.Codes.{sizeN, checksBy}

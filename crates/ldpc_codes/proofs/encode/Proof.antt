@@ -6,7 +6,7 @@ use borrow.Author.Tests.{lt-ltb, le-ltb, eq-eqb, ne-eqb}
 use lib.ListN.{length}
 use Rattle.construction.specs.Codes.{blockLength}
 use Rattle.staircase.specs.Codes.{codeOf, checks}
-use Rattle.stairs.specs.Stairs.{filled}
+use Rattle.stair_parity.specs.Filling.{filled}
 use Rattle.ldpc_codes.proofs.Laid.{laid-encoded}
 use borrow.Author.Needs.{needs}
 use Rattle.ldpc_codes.proofs.encode.Statement.{statement}

@@ -2,9 +2,9 @@
 use mathlib.Core.Path.{refl}
 use native.Mathlib.Omega.{arith}
 use Rattle.construction.specs.Codes.{n512r12}
-use Rattle.staircase.proofs.N512R12.{taps0, taps-right0}
+use Rattle.n512r12.proofs.Tables.{taps0, taps-right0}
 use Rattle.stairs.proofs.Codes.{stairs0}
-use Rattle.stairs.proofs.Rows.{part-of}
+use Rattle.stair_parity.proofs.Filling.{part-of}
 use Rattle.ldpc_codes.proofs.Laid.{four-filled}
 use borrow.Author.Needs.{needs}
 use Rattle.ldpc_codes.proofs.fill_n512r12.Statement.{statement}

@@ -2,9 +2,9 @@
 use mathlib.Core.Path.{refl}
 use native.Mathlib.Omega.{arith}
 use Rattle.construction.specs.Codes.{n512r34}
-use Rattle.staircase.proofs.N512R34.{taps2, taps-right2}
+use Rattle.n512r34.proofs.Tables.{taps2, taps-right2}
 use Rattle.stairs.proofs.Codes.{stairs2}
-use Rattle.stairs.proofs.Rows.{part-of}
+use Rattle.stair_parity.proofs.Filling.{part-of}
 use Rattle.ldpc_codes.proofs.Laid.{four-filled}
 use borrow.Author.Needs.{needs}
 use Rattle.ldpc_codes.proofs.fill_n512r34.Statement.{statement}

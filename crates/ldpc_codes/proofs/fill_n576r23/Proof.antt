@@ -2,9 +2,9 @@
 use mathlib.Core.Path.{refl}
 use native.Mathlib.Omega.{arith}
 use Rattle.construction.specs.Codes.{n576r23}
-use Rattle.staircase.proofs.N576R23.{taps1, taps-right1}
+use Rattle.n576r23.proofs.Tables.{taps1, taps-right1}
 use Rattle.stairs.proofs.Codes.{stairs1}
-use Rattle.stairs.proofs.Rows.{part-of}
+use Rattle.stair_parity.proofs.Filling.{part-of}
 use Rattle.ldpc_codes.proofs.Laid.{four-filled}
 use borrow.Author.Needs.{needs}
 use Rattle.ldpc_codes.proofs.fill_n576r23.Statement.{statement}

@@ -1,7 +1,7 @@
 -- `ldpc_codes::weight_n512r12` meets its contract: the table holds the code's rows. Assumes nothing.
 use native.Mathlib.Omega.{arith}
 use Rattle.construction.specs.Codes.{n512r12}
-use Rattle.staircase.proofs.N512R12.{taps0, taps-right0}
+use Rattle.n512r12.proofs.Tables.{taps0, taps-right0}
 use Rattle.stairs.proofs.Codes.{stairs0}
 use Rattle.ldpc_codes.proofs.Laid.{laid-judged}
 use borrow.Author.Needs.{needs}

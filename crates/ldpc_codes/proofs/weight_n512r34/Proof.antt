@@ -1,7 +1,7 @@
 -- `ldpc_codes::weight_n512r34` meets its contract: the table holds the code's rows. Assumes nothing.
 use native.Mathlib.Omega.{arith}
 use Rattle.construction.specs.Codes.{n512r34}
-use Rattle.staircase.proofs.N512R34.{taps2, taps-right2}
+use Rattle.n512r34.proofs.Tables.{taps2, taps-right2}
 use Rattle.stairs.proofs.Codes.{stairs2}
 use Rattle.ldpc_codes.proofs.Laid.{laid-judged}
 use borrow.Author.Needs.{needs}

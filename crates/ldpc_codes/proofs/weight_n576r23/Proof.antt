@@ -1,7 +1,7 @@
 -- `ldpc_codes::weight_n576r23` meets its contract: the table holds the code's rows. Assumes nothing.
 use native.Mathlib.Omega.{arith}
 use Rattle.construction.specs.Codes.{n576r23}
-use Rattle.staircase.proofs.N576R23.{taps1, taps-right1}
+use Rattle.n576r23.proofs.Tables.{taps1, taps-right1}
 use Rattle.stairs.proofs.Codes.{stairs1}
 use Rattle.ldpc_codes.proofs.Laid.{laid-judged}
 use borrow.Author.Needs.{needs}

@@ -5,7 +5,8 @@ use native.Mathlib.Omega.{arith}
 use lib.ListN.{length}
 use borrow.Author.Needs.{needs}
 use borrow.Author.Tests.{eq-eqb, ne-eqb}
-use Rattle.packing.specs.Packing.{bytesFor, packedWord}
+use Rattle.bits.specs.Bits.{bytesFor}
+use Rattle.packing.specs.Packing.{packedWord}
 use Rattle.packing.proofs.Judged.{turned-down, written}
 use Rattle.packing.proofs.pack_bits.Statement.{statement}
 use Rattle.packing.proofs.pack_bits.Tie as tie

@@ -4,7 +4,8 @@ use native.Mathlib.Omega.{arith}
 use lib.ListN.{length}
 use borrow.Author.Needs.{needs}
 use borrow.Author.Tests.{lt-ltb, le-ltb}
-use Rattle.packing.specs.Packing.{bytesFor, unpackedWord}
+use Rattle.bits.specs.Bits.{bytesFor}
+use Rattle.packing.specs.Packing.{unpackedWord}
 use Rattle.packing.proofs.Judged.{turned-down, written}
 use Rattle.packing.proofs.unpack_bits.Statement.{statement}
 use Rattle.packing.proofs.unpack_bits.Tie as tie

@@ -3,7 +3,7 @@ use mathlib.Core.Path.{refl}
 use native.Mathlib.Omega.{arith}
 use Rattle.construction.specs.Codes.{n576r23}
 use Rattle.staircase.specs.Codes.{checks}
-use Rattle.staircase.proofs.N576R23.{places1}
+use Rattle.n576r23.proofs.Tables.{places1}
 use Rattle.passes.specs.Codes.{sizeN, sizeM, checksBy, kindBy, degree, room}
 use Rattle.passes.proofs.Tables.{edges1, listed1}
 use borrow.Author.Needs.{needs}

@@ -3,7 +3,8 @@ use mathlib.Core.Path.{refl}
 use native.Mathlib.Omega.{arith}
 use Rattle.ldpc.proofs.Arrays.{slotPads}
 use Rattle.passes.specs.Codes.{sizeM, checksBy, degree, room}
-use Rattle.passes.proofs.Tables.{pads0, pads1, pads2, pads3, one-below, pads-below, room-at, last-code}
+use Rattle.numbered.proofs.Codes.{last-code}
+use Rattle.passes.proofs.Tables.{pads0, pads1, pads2, pads3, one-below, pads-below, room-at}
 use borrow.Author.Needs.{needs}
 use Rattle.passes.proofs.check_pass.Statement.{statement}
 use Rattle.passes.proofs.check_pass.Tie as tie

@@ -3,7 +3,7 @@ use mathlib.Core.Path.{refl}
 use native.Mathlib.Omega.{arith}
 use Rattle.construction.specs.Codes.{n512r34}
 use Rattle.staircase.specs.Codes.{checks}
-use Rattle.staircase.proofs.N512R34.{places2}
+use Rattle.n512r34.proofs.Tables.{places2}
 use Rattle.passes.specs.Codes.{sizeN, sizeM, checksBy, degree, room}
 use Rattle.passes.proofs.Tables.{edges2, listed2}
 use borrow.Author.Needs.{needs}

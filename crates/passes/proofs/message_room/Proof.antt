@@ -2,7 +2,7 @@
 use mathlib.Core.Path.{refl}
 use native.Mathlib.Omega.{arith}
 use Rattle.passes.specs.Codes.{sizeM, degree, room}
-use Rattle.passes.proofs.Tables.{last-code}
+use Rattle.numbered.proofs.Codes.{last-code}
 use Rattle.passes.proofs.message_room.Statement.{statement}
 use Rattle.passes.proofs.message_room.Tie as tie
 

@@ -1,9 +1,9 @@
 -- `reason_text::check_line` meets its contract: each code's tables hold its checks. Assumes nothing.
 use mathlib.Core.Path.{_≡_}
 use native.Mathlib.Omega.{arith}
-use Rattle.staircase.proofs.N512R12.{checkStarts0, checkBits0}
-use Rattle.staircase.proofs.N576R23.{checkStarts1, checkBits1}
-use Rattle.staircase.proofs.N512R34.{checkStarts2, checkBits2}
+use Rattle.n512r12.proofs.Tables.{checkStarts0, checkBits0}
+use Rattle.n576r23.proofs.Tables.{checkStarts1, checkBits1}
+use Rattle.n512r34.proofs.Tables.{checkStarts2, checkBits2}
 use Rattle.ldpc.proofs.Arrays.{checkStart, checkBits}
 use Rattle.reason_text.proofs.Tables.{tables0, tables1, tables2, tables3, asks, gives}
 use borrow.Author.Needs.{needs}

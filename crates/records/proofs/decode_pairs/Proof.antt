@@ -37,19 +37,20 @@ use Rattle.batch_refusals.proofs.Room as R
 use Rattle.batch_refusals.proofs.Room.Laws as R′
 use Rattle.batch.specs.Calls.{Lent, Batch, roomOf, refusals, written}
 use Rattle.batch.proofs.Whole.{fitting}
-use Rattle.records.specs.declared.Pair.{Pair}
-use Rattle.records.specs.Fields.{isRefused}
-use Rattle.records.proofs.Answers.{down, good, tells, turned-down-by, carried-out-by}
-use Rattle.records.proofs.Types.{status, room, pair}
+use Rattle.record_check.specs.declared.Pair.{Pair}
+use Rattle.record_check.specs.Fields.{isRefused}
+use Rattle.record_check.proofs.Answers.{down, good, tells}
+use Rattle.records.proofs.Answers.{turned-down-by, carried-out-by}
+use Rattle.record_check.proofs.Types.{status, room, pair}
 use Rattle.records.proofs.Lists.{params, Numbers, Handles, Sizes, handed, mine, left, lasts-of, all-lasts, numbers-of, handles, contents, sizes-of}
-use Rattle.records.proofs.turned_down as down-of
-use Rattle.records.proofs.turned_down.Symbol as down-def
-use Rattle.records.proofs.turned_down.Symbol.{name as #records·turned-down}
-use Rattle.records.proofs.turned_down.Met as down-thm
-use Rattle.records.proofs.batch_fault as fault
-use Rattle.records.proofs.batch_fault.Symbol as fault-def
-use Rattle.records.proofs.batch_fault.Symbol.{name as #records·batch-fault}
-use Rattle.records.proofs.batch_fault.Met as fault-thm
+use Rattle.record_check.proofs.turned_down as down-of
+use Rattle.record_check.proofs.turned_down.Symbol as down-def
+use Rattle.record_check.proofs.turned_down.Symbol.{name as #record-check·turned-down}
+use Rattle.record_check.proofs.turned_down.Met as down-thm
+use Rattle.record_check.proofs.batch_fault as fault
+use Rattle.record_check.proofs.batch_fault.Symbol as fault-def
+use Rattle.record_check.proofs.batch_fault.Symbol.{name as #record-check·batch-fault}
+use Rattle.record_check.proofs.batch_fault.Met as fault-thm
 use Rattle.records.proofs.decode_records as frames
 use Rattle.records.proofs.decode_records.Symbol as frames-def
 use Rattle.records.proofs.decode_records.Symbol.{name as #records·decode-records}
@@ -60,8 +61,8 @@ use Rattle.records.proofs.decode_pairs.Statement as stated
 use Rattle.records.proofs.decode_pairs.Code as code-of
 
 module _ {M : Type 1} (𝓤 : URA M) (H : Heap 𝓤) (A : Atoms 𝓤) (W : Given 𝓤 H A) (mem : Memory → SProp 𝓤) (run : Routine → Fun 𝓤) (𝓣 : Tables 𝓤 H)
-    (known-fault : Triple 𝓤 (𝓣 .C #records·batch-fault) (Callee 𝓤 H A fault.ended (fault.clauses 𝓤 H A mem run)))
-    (known-down : Triple 𝓤 (𝓣 .C #records·turned-down) (Callee 𝓤 H A down-of.ended (down-of.clauses 𝓤 H A mem run)))
+    (known-fault : Triple 𝓤 (𝓣 .C #record-check·batch-fault) (Callee 𝓤 H A fault.ended (fault.clauses 𝓤 H A mem run)))
+    (known-down : Triple 𝓤 (𝓣 .C #record-check·turned-down) (Callee 𝓤 H A down-of.ended (down-of.clauses 𝓤 H A mem run)))
     (known-frames : Triple 𝓤 (𝓣 .C #records·decode-records) (Callee 𝓤 H A frames.ended (frames.clauses 𝓤 H A mem run))) where
   module _ (n : Numbers) (h : Handles) (vs : List Float) (ys : List Pair) (m : Lent) (sizes : Sizes vs ys m) where
     abbrev B : Batch
@@ -140,9 +141,9 @@ decode-pairs-spec 𝓤 H 𝓜 𝓖 𝓡 =
     entered 𝓤 H (tripleOf 𝓤 H (𝓖 .A) this.signature (this.spec 𝓤 H (𝓖 .A) (𝓜 .mem) (𝓡 .run)))
     (tables 𝓤 H 𝓜 𝓡 code-of.env .C) (tables 𝓤 H 𝓜 𝓡 code-of.env .Λ) #records·decode-pairs code-of.function (code-of.unfolded 𝓤 H 𝓜 𝓡)
     (meets 𝓤 H (𝓖 .A) (givenOf 𝓤 H 𝓜 𝓖) (𝓜 .mem) (𝓡 .run) (tablesOf 𝓤 H 𝓜 (tables 𝓤 H 𝓜 𝓡 code-of.env))
-    (cited 𝓤 H (Callee 𝓤 H (𝓖 .A) fault.ended (fault.clauses 𝓤 H (𝓖 .A) (𝓜 .mem) (𝓡 .run))) 𝓜 𝓡 code-of.env #records·batch-fault fault-def.routine
-    code-of.calls-records·batch-fault (fault-thm.met 𝓤 H 𝓜 𝓖 𝓡))
-    (cited 𝓤 H (Callee 𝓤 H (𝓖 .A) down-of.ended (down-of.clauses 𝓤 H (𝓖 .A) (𝓜 .mem) (𝓡 .run))) 𝓜 𝓡 code-of.env #records·turned-down down-def.routine
-    code-of.calls-records·turned-down (down-thm.met 𝓤 H 𝓜 𝓖 𝓡))
+    (cited 𝓤 H (Callee 𝓤 H (𝓖 .A) fault.ended (fault.clauses 𝓤 H (𝓖 .A) (𝓜 .mem) (𝓡 .run))) 𝓜 𝓡 code-of.env #record-check·batch-fault fault-def.routine
+    code-of.calls-record-check·batch-fault (fault-thm.met 𝓤 H 𝓜 𝓖 𝓡))
+    (cited 𝓤 H (Callee 𝓤 H (𝓖 .A) down-of.ended (down-of.clauses 𝓤 H (𝓖 .A) (𝓜 .mem) (𝓡 .run))) 𝓜 𝓡 code-of.env #record-check·turned-down down-def.routine
+    code-of.calls-record-check·turned-down (down-thm.met 𝓤 H 𝓜 𝓖 𝓡))
     (cited 𝓤 H (Callee 𝓤 H (𝓖 .A) frames.ended (frames.clauses 𝓤 H (𝓖 .A) (𝓜 .mem) (𝓡 .run))) 𝓜 𝓡 code-of.env #records·decode-records frames-def.routine
     code-of.calls-records·decode-records (frames-thm.met 𝓤 H 𝓜 𝓖 𝓡)))

@@ -49,9 +49,9 @@ use Rattle.work_area.proofs.clear_area as clear
 use Rattle.work_area.proofs.clear_area.Symbol as clear-def
 use Rattle.work_area.proofs.clear_area.Symbol.{name as #work-area·clear-area}
 use Rattle.work_area.proofs.clear_area.Met as clear-thm
-use Rattle.records.specs.declared.Pair.{Pair}
-use Rattle.records.specs.Fields.{pairOf, pairsOf}
-use Rattle.records.proofs.Types.{pair, none}
+use Rattle.record_check.specs.declared.Pair.{Pair}
+use Rattle.record_check.specs.Fields.{pairOf, pairsOf}
+use Rattle.record_check.proofs.Types.{pair, none}
 use Rattle.records.proofs.Lists.{
   params,
   Numbers,

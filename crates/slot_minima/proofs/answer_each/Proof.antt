@@ -7,7 +7,7 @@ use lib.ListN.{length}
 use borrow.Author.Needs.{needs}
 use Rattle.slot_minima.specs.Cells.{cellIn}
 use Rattle.slot_minima.proofs.CellColumns.{room, room-more, part-length, AnsweredFrom, answered-length, answers-none, answers-more, answers-done}
-use Rattle.slot_minima.specs.MinSum.{factorOf}
+use Rattle.softmath.specs.CheckNode.{factorOf}
 use Rattle.slot_minima.proofs.answer_each.Statement.{statement}
 use Rattle.slot_minima.proofs.answer_each.Tie as tie
 

@@ -8,7 +8,7 @@ use lib.ListN.{length, length-set}
 use borrow.Author.Needs.{needs}
 use Rattle.slot_minima.specs.Cells.{cellIn}
 use Rattle.slot_minima.proofs.CellSlots.{AnsweredTo, answer-none, answer-more, answer-done}
-use Rattle.slot_minima.specs.MinSum.{factorOf}
+use Rattle.softmath.specs.CheckNode.{factorOf}
 use Rattle.slot_minima.proofs.answer_in.Statement.{statement}
 use Rattle.slot_minima.proofs.answer_in.Tie as tie
 

@@ -1,0 +1,2 @@
+pub mod ByOthers
+pub mod Cases

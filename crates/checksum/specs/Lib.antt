@@ -1,0 +1,3 @@
+pub mod Qex
+pub mod Register
+pub mod Upper
