@@ -1,13 +1,14 @@
 #!/usr/bin/env python3
 """Writes the tables of the (174,91) code, taken from the Rust's ldpc.rs.
 
-    ORION_SRC=folder python3 tools/ldpc_tables.py crates/ldpc
+    ORION_SRC=folder python3 tools/ldpc_tables.py crates
 
-ORION_SRC names a folder that holds the Rust's ldpc.rs. Written are src/tables.rt (the constants of the checks), specs/Tables.antt
-(the Rust's tables of them as lists), proofs/Arrays.antt (the arrays of the Tanner graph as lists) and, beside them, src/tables.rt and
-specs/Tables.antt of crates/ldpc_encoding (the generator) and proofs/CheckSets.antt of crates/codewords (the checks to add up for each
-parity bit). The graph's arrays and the sets are worked out here from NM and NUM_ROWS; that they are right is proved in proofs/Graph.antt
-and BySlots.antt, and in Codewords.antt of crates/codewords, and nothing rests on this script. Run `rt fmt` afterwards.
+ORION_SRC names a folder that holds the Rust's ldpc.rs. Written are src/tables.rt of crate ldpc (the constants of the checks),
+specs/Tables.antt (the Rust's tables of them as lists) and proofs/Arrays.antt (the arrays of the Tanner graph as lists) of crate code174,
+src/tables.rt and specs/Tables.antt of crate ldpc_encoding (the generator) and proofs/CheckSets.antt of crate codewords (the checks to add
+up for each parity bit). The graph's arrays and the sets are worked out here from NM and NUM_ROWS; that they are right is proved in
+Graph.antt and BySlots.antt of crate code174 and in Codewords.antt of crate codewords, and nothing rests on this script. Run `rt fmt`
+afterwards.
 """
 import os
 import re
@@ -54,7 +55,8 @@ def main():
     folder = os.environ["ORION_SRC"]
     with open(os.path.join(folder, "ldpc.rs"), encoding="utf-8") as f:
         text = f.read()
-    crate = sys.argv[1]
+    crates = sys.argv[1]
+    counting, code, encoding = (os.path.join(crates, name) for name in ("ldpc", "code174", "ldpc_encoding"))
     generator, nm, num_rows, mn = (table(text, t) for t in ("GENERATOR", "NM", "NUM_ROWS", "MN"))
     assert (len(generator), len(nm), len(num_rows), len(mn)) == (996, 581, 83, 522)
 
@@ -83,33 +85,32 @@ def main():
         ("By slots: the place after the last entry of each check of six positions.", "PADS", pads, "slotPads"),
     ]
 
-    encoding = os.path.join(crate, "../ldpc_encoding")
     with open(os.path.join(encoding, "src/tables.rt"), "w", encoding="utf-8") as f:
         f.write("// The generator of the (174,91) code. Written by tools/ldpc_tables.py.\n\n")
         f.write("\n".join(constant(note, name, "u8", t, shown) for note, name, t, _, shown in made))
 
-    with open(os.path.join(crate, "src/tables.rt"), "w", encoding="utf-8") as f:
+    with open(os.path.join(counting, "src/tables.rt"), "w", encoding="utf-8") as f:
         f.write("// The checks of the (174,91) code in tables, and its Tanner graph in arrays. Written by tools/ldpc_tables.py.\n\n")
         parts = [constant(note, name, "u8", t, shown) for note, name, t, _, shown in rust]
         parts += [constant(note, name, "u16", t, "%d") for note, name, t, _ in graph]
         f.write("\n".join(parts))
 
     names = {"GENERATOR": "generator", "NM": "nm", "NUM_ROWS": "numRows", "MN": "mn"}
-    for folder, what, tables in ((encoding, "generator", made), (crate, "tables of the checks", rust)):
+    for folder, what, tables in ((encoding, "generator", made), (code, "tables of the checks", rust)):
         with open(os.path.join(folder, "specs/Tables.antt"), "w", encoding="utf-8") as f:
             f.write(head("-- The %s of the Rust's `ldpc.rs`, row after row: \"the definition takes the file's tables\" (document 01).\n"
                          "-- Written by tools/ldpc_tables.py.\n" % what))
             for note, name, t, a_line, shown in tables:
                 f.write("\n" + listed(note, names[name], t, a_line, shown))
 
-    with open(os.path.join(crate, "proofs/Arrays.antt"), "w", encoding="utf-8") as f:
+    with open(os.path.join(code, "proofs/Arrays.antt"), "w", encoding="utf-8") as f:
         f.write(head("-- The Tanner graph's arrays, as the source's constants have them; `Graph.antt` and `BySlots.antt` show that they are right, by computation.\n"
                      "-- Written by tools/ldpc_tables.py.\n"))
         for note, name, t, spelled in graph:
             f.write("\n" + listed(note, spelled, t, 20, "%d"))
 
     rows = [check_bits[check_start[c]:check_start[c + 1]] for c in range(83)]
-    with open(os.path.join(crate, "../codewords/proofs/CheckSets.antt"), "w", encoding="utf-8") as f:
+    with open(os.path.join(crates, "codewords/proofs/CheckSets.antt"), "w", encoding="utf-8") as f:
         f.write(head("-- For each parity bit, the checks that add up to its generator row; `Codewords.antt` shows that they do, by computation.\n"
                      "-- Written by tools/ldpc_tables.py.\n"))
         f.write("\n" + listed("A number for each of the 83 parity bits: its binary digit c, the lowest being 0, is 1 where check c is added.",

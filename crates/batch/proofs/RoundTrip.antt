@@ -15,7 +15,7 @@ use Rattle.staircase.specs.Codes.{codeOf, columns, checks}
 use Rattle.staircase.specs.Staircase.{encoded, parityBits}
 use Rattle.staircase.proofs.EdgeCount.{columns-length}
 use Rattle.ldpc_codes.proofs.Codewords.{count-encoded}
-use Rattle.ldpc.specs.Code174 as ft8
+use Rattle.code174.specs.Code174 as ft8
 use Rattle.ldpc_encoding.specs.Encoding.{encodeBits}
 use Rattle.codewords.proofs.PackedWords.{codewords, encoding-length, encoding-front}
 use Rattle.softmath.specs.Functions.{decide}

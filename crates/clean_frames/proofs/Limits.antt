@@ -9,7 +9,7 @@ use borrow.Author.Tests.{eqb-true}
 use lib.Dec.{eqb}
 use lib.Ieee.{Float}
 use lib.ListN.{take}
-use Rattle.ldpc.proofs.Tests.{and-left}
+use Rattle.code174.proofs.Tests.{and-left}
 use Rattle.rounds.specs.Rounds.{chosenCount, chosenBits}
 use Rattle.belief.proofs.Words.{count-falls, same-chosen}
 use Rattle.batch.specs.Codes.{sizeK, decodeOf}

@@ -12,11 +12,11 @@ use lib.Seq.{drop-cons, drop-at, getD-drop, drop-drop, length-take-le}
 use Rattle.bits.specs.Bits.{bitsOf, bits}
 use Rattle.tanner.specs.Checks.{Word, Checks, count}
 use Rattle.tanner.specs.Flat.{Below}
-use Rattle.ldpc.specs.Tables.{nm, numRows}
-use Rattle.ldpc.specs.Code174.{rowsOfSeven, checks}
+use Rattle.code174.specs.Tables.{nm, numRows}
+use Rattle.code174.specs.Code174.{rowsOfSeven, checks}
 use Rattle.ldpc_encoding.specs.Tables.{generator}
 use Rattle.ldpc_encoding.specs.Encoding.{under, rowsOfTwelve, parityBits, encodeBits}
-use Rattle.ldpc.proofs.Tests.{and-left, and-right}
+use Rattle.code174.proofs.Tests.{and-left, and-right}
 use Rattle.codewords.proofs.CheckSets.{checkSets}
 use Rattle.ldpc_encoding.proofs.Parity.{under-bit}
 use Rattle.codewords.proofs.Span.{Row, added, under-added, unit, under-unit, rowOf, under-row, under-take}

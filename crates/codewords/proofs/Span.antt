@@ -10,7 +10,7 @@ use lib.ListN.{getD, take}
 use Rattle.tanner.specs.Checks.{Word, parity}
 use Rattle.ldpc_encoding.specs.Encoding.{under}
 use Rattle.ldpc_encoding.proofs.Parity.{under-bit}
-use Rattle.ldpc.proofs.Tests.{and-left, and-right}
+use Rattle.code174.proofs.Tests.{and-left, and-right}
 
 -- one entry, 0 or 1, for each position; past its end a row holds 0
 abbrev pub Row : Type 0

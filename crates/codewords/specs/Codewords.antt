@@ -6,7 +6,7 @@ use lib.ListN.{length, getD, take, replicate}
 use Rattle.bits.specs.Bits.{bits, packed}
 use Rattle.tanner.specs.Checks.{Word, count}
 use Rattle.tanner.specs.Flat.{Below}
-use Rattle.ldpc.specs.Code174.{checks}
+use Rattle.code174.specs.Code174.{checks}
 use Rattle.ldpc_encoding.specs.Encoding.{encodeBits, codewordOf}
 
 -- a word of 174 bits that has count 0

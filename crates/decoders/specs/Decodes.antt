@@ -5,7 +5,7 @@ use Rattle.softmath.specs.declared.DecodeRule.{DecodeRule}
 use Rattle.softmath.specs.declared.SumKind.the-variants.{Total, Others}
 use Rattle.construction.specs.Codes.{Code}
 use Rattle.staircase.specs.Codes as staircase
-use Rattle.ldpc.specs.Code174 as code174
+use Rattle.code174.specs.Code174 as code174
 use Rattle.one_round.specs.Round.{Decode}
 
 -- a staircase code's decode

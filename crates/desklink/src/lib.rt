@@ -13,7 +13,7 @@ ghost use Rattle.crc.specs.Calls as crc·calls;
 ghost use Rattle.rules.specs.Rules.{asStored};
 ghost use Rattle.tanner.specs.Checks.{syndromeOfBytes};
 ghost use Rattle.ldpc.specs.Calls as ldpc·calls;
-ghost use Rattle.ldpc.specs.Code174.{checks};
+ghost use Rattle.code174.specs.Code174.{checks};
 ghost use Rattle.ldpc_encoding.specs.Calls as encoding·calls;
 ghost use Rattle.ldpc_encoding.specs.Encoding.{codewordOf};
 ghost use Rattle.ldpc_codes.specs.Calls as staircase·calls;

@@ -17,10 +17,10 @@ use Rattle.staircase.specs.Staircase.{taps, parityEntries, checkRow, checkRows,
 use Rattle.staircase.specs.Codes as staircase
 use Rattle.staircase.proofs.Positions.{taps-below}
 use Rattle.staircase.proofs.EdgeCount.{columns-length}
-use Rattle.ldpc.specs.Agreement.{times}
-use Rattle.ldpc.specs.Code174 as code174
-use Rattle.ldpc.proofs.Agreement.{agreed}
-use Rattle.ldpc.proofs.Graph.{checks-low}
+use Rattle.code174.specs.Agreement.{times}
+use Rattle.code174.specs.Code174 as code174
+use Rattle.code174.proofs.Agreement.{agreed}
+use Rattle.code174.proofs.Graph.{checks-low}
 use Rattle.filling.specs.Promise.{named, NoneTwice, Fills}
 use Rattle.numbered.specs.Codes.{checksBy}
 use Rattle.filling.proofs.Named.{named-cons, named-none, named-fresh, named-append, named-other, named-past}

@@ -6,8 +6,8 @@ use lib.ListN.{replicate}
 use Rattle.bits.specs.Bits.{bitsOf, bits, numberAfter}
 use Rattle.checksum.specs.Qex.{bringDown, divide, qex}
 use Rattle.tanner.specs.Checks.{Word, lowBits, parity, firstBy}
-use Rattle.ldpc.specs.Tables.{nm, numRows}
-use Rattle.ldpc.specs.Code174.{rowsOfSeven, checks}
+use Rattle.code174.specs.Tables.{nm, numRows}
+use Rattle.code174.specs.Code174.{rowsOfSeven, checks}
 use Rattle.ldpc_encoding.specs.Tables.{generator}
 use Rattle.ldpc_encoding.specs.Encoding.{under, rowsOfTwelve, parityBits, encodeBits}
 use Rattle.numbered.specs.Codes.{sizeK}

@@ -12,7 +12,7 @@ use lib.Ieee.{Float, isNan, nan}
 use lib.ListN.{length, getD, take}
 use Rattle.tanner.specs.Checks.{Word, First, none, parity, count, firstUnsatisfied, FirstIs, counted, satisfied}
 use Rattle.tanner.proofs.First.{first-is, none-count, count-none}
-use Rattle.ldpc.proofs.Tests.{and-left, and-right}
+use Rattle.code174.proofs.Tests.{and-left, and-right}
 use Rattle.numbered.specs.Codes.{sizeK}
 use Rattle.clean.specs.Clean.{anyNan, payloadChecksum, carriedChecksum, checksumRight, frameClean}
 use Rattle.first_reason.specs.declared.Reason.{Reason}

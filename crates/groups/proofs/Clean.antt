@@ -7,7 +7,7 @@ use native.Mathlib.Nat.{add-suc, suc-add, add-zero, zero-add}
 use native.Mathlib.Omega.{arith}
 use lib.ListN.{length, getD, take, drop, length-drop}
 use lib.Seq.{length-take-le, getD-take, getD-drop}
-use Rattle.ldpc.proofs.Tests.{and-left, and-right}
+use Rattle.code174.proofs.Tests.{and-left, and-right}
 use Rattle.grouping.specs.Grouping.{all}
 use Rattle.groups.specs.Groups.{cleanFrom}
 

@@ -6,8 +6,8 @@ use Rattle.tanner.specs.Checks.{parity, count}
 use Rattle.softmath.specs.Functions.{decide}
 use Rattle.softmath.proofs.Cases.{min-sum-case}
 use Rattle.crc.proofs.Cases.{checksum-cases}
-use Rattle.ldpc.specs.Tables.{nm, numRows}
-use Rattle.ldpc.specs.Code174.{checks, rowsOfSeven}
+use Rattle.code174.specs.Tables.{nm, numRows}
+use Rattle.code174.specs.Code174.{checks, rowsOfSeven}
 use Rattle.ldpc_encoding.proofs.Cases.{code-cases}
 use Rattle.known_cases.proofs.Staircase.{cases0, cases1, cases2}
 use Rattle.one_round.specs.Round.{initialWord}

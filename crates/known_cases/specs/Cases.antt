@@ -10,7 +10,7 @@ use Rattle.tanner.specs.Checks.{countBytes}
 use Rattle.softmath.specs.Single.{zero32, two32}
 use Rattle.softmath.specs.CheckNode.{checkStep}
 use Rattle.softmath.specs.declared.DecodeRule.the-variants.{MinSum}
-use Rattle.ldpc.specs.Code174.{checks}
+use Rattle.code174.specs.Code174.{checks}
 use Rattle.ldpc_encoding.specs.Encoding.{codewordOf}
 use Rattle.ldpc_codes.specs.Calls.{syndromeBy}
 use Rattle.rounds.specs.Rounds.{chosenCount, chosenBits}

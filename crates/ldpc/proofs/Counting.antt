@@ -9,7 +9,7 @@ use Rattle.tanner.specs.Masked.{syndromeMasked}
 use Rattle.tanner.specs.Flat.{Below}
 use Rattle.tanner.proofs.Count.{bits-count}
 use Rattle.tanner.proofs.First.{byte-syndrome}
-use Rattle.ldpc.specs.Code174.{checks}
+use Rattle.code174.specs.Code174.{checks}
 
 pub bytes-counted : (bytes : List ℕ) → Below 256 bytes → syndromeMasked 255 checks bytes ≡ syndromeOfBytes checks bytes
 bytes-counted bytes low = byte-syndrome checks bytes low

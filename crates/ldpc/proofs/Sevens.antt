@@ -17,11 +17,11 @@ use Rattle.tanner.specs.Checks.{Checks, xorFrom, nonzero, firstBy}
 use Rattle.tanner.specs.Masked.{countMasked, measured, firstMasked}
 use Rattle.tanner.specs.Flat.{Below}
 use Rattle.tanner.proofs.Steps.{part-below}
-use Rattle.ldpc.specs.Agreement.{each}
-use Rattle.ldpc.specs.Code174.{rowsOfSeven, checks}
+use Rattle.code174.specs.Agreement.{each}
+use Rattle.code174.specs.Code174.{rowsOfSeven, checks}
 use Rattle.ldpc.specs.Rows.{Rows, sevens, fromOne}
-use Rattle.ldpc.specs.Tables.{nm, numRows}
-use Rattle.ldpc.proofs.Tests.{each-at}
+use Rattle.code174.specs.Tables.{nm, numRows}
+use Rattle.code174.proofs.Tests.{each-at}
 
 -- ---- a turn
 

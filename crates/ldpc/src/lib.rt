@@ -13,9 +13,9 @@ ghost use Rattle.tanner.specs.Masked.{countMasked, firstMasked, syndromeMasked}
 ghost use Rattle.tanner.specs.Found.{firstOf, syndromeOf, countingOf};
 ghost use Rattle.tanner.specs.Flat.{Below};
 ghost use Rattle.ldpc.specs.Calls.{countRefusals};
-ghost use Rattle.ldpc.specs.Code174.{checks};
+ghost use Rattle.code174.specs.Code174.{checks};
 ghost use Rattle.ldpc.specs.Rows.{Rows, sevens};
-ghost use Rattle.ldpc.specs.Tables.{nm, numRows, mn};
+ghost use Rattle.code174.specs.Tables.{nm, numRows, mn};
 
 pub mod tables;
 

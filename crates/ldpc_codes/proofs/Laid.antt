@@ -7,18 +7,17 @@ use native.Mathlib.Omega.{arith}
 use lib.ListN.{length, getD, set, take, drop, length-drop}
 use lib.Seq.{set-at, drop-cons, take-suc, append-snoc, length-take-le}
 use Rattle.refusal.specs.Outcome.{Outcome, judged}
-use Rattle.construction.specs.Codes.{Code, n512r34, blockLength}
+use Rattle.construction.specs.Codes.{Code, blockLength}
 use Rattle.tanner.specs.Checks.{lowBits, Syndrome}
 use Rattle.tanner.specs.Masked.{syndromeMasked}
 use Rattle.tanner.specs.Flat.{joined, offsets, FlatChecks}
 use Rattle.tanner.proofs.First.{low-syndrome, front-syndrome}
 use Rattle.tanner.proofs.Flat.{flat-checks, all-below}
-use Rattle.staircase.specs.Codes.{codeOf, columns, checks}
-use Rattle.staircase.specs.Shape.{stairRows, stairs}
+use Rattle.staircase.specs.Codes.{columns, checks}
+use Rattle.staircase.specs.Shape.{stairs}
 use Rattle.staircase.proofs.EdgeCount.{columns-length}
 use Rattle.staircase.proofs.Positions.{checks-low, checks-many}
 use Rattle.stair_parity.specs.Filling.{filled}
-use Rattle.stair_parity.proofs.Filling.{fill-then}
 use Rattle.ldpc_codes.specs.Calls.{codewordOf, shortWord, syndromeOf}
 use Rattle.ldpc_codes.proofs.Codewords.{fill-all}
 
@@ -55,19 +54,6 @@ module _ (c : Code) (width : ℕ) (table : List ℕ) (t : stairs (c .k) width (c
       rw (t, low-take (blockLength c) hard)
       (low-syndrome (checks c) hard ∙ sym (front-syndrome (blockLength c) (lowBits hard) (all-below (blockLength c) (checks c) (checks-low c))))
 
--- its rows filled in, a fourth of them after another
-pub four-filled : (c : Code) (width n : ℕ) (table w u v x y : List ℕ) → stairs (c .k) width (c .m) table ≡ checks c → n + n + n + n ≡ c .m
-    → u ≡ filled (stairRows (c .k) width table 0 n) (c .k + 0) w → v ≡ filled (stairRows (c .k) width table n n) (c .k + n) u
-    → x ≡ filled (stairRows (c .k) width table (n + n) n) (c .k + (n + n)) v
-    → y ≡ filled (stairRows (c .k) width table (n + n + n) n) (c .k + (n + n + n)) x → y ≡ filled (checks c) (c .k) w
-four-filled c width n table w u v x y t m a b d e =
-    let so-far = fill-then (c .k) width table 0 in
-    let p : c .k + 0 ≡ c .k = omega arith in
-    let all : y ≡ filled (stairRows (c .k) width table 0 (n + n + n + n)) (c .k + 0) w =
-    so-far (n + n + n) n (n + n + n) w x y (omega arith)
-    (so-far (n + n) n (n + n) w v x (omega arith) (so-far n n n w u v (omega arith) a b) d) e in
-    rw (m, p, t) at all
-
 -- the parity bits filled in after the message
 pub laid-encoded : (c : Code) (message codeword : List ℕ) → length message ≡ c .k → length codeword ≡ blockLength c
     → filled (checks c) (c .k) (message ++ drop (length message) codeword) ≡ codewordOf c message
@@ -80,11 +66,3 @@ module _ (c : Code) (width : ℕ) (table : List ℕ) (t : stairs (c .k) width (c
   pub laid-judged : (hard : List ℕ) {a : Outcome Syndrome} → a ≡ judged (shortWord c hard) (syndromeMasked 1 (stairs (c .k) width (c .m) table) hard)
       → a ≡ judged (shortWord c hard) (syndromeOf c hard)
   laid-judged hard e = e ∙ ap (judged (shortWord c hard)) (laid-weight c width table t hard)
-
--- ---- the codes by number
-
--- any number above 1 is code 2
-pub last-of : (n : ℕ) → (n ≡ 0 → ⊥) → (n ≡ 1 → ⊥) → codeOf n ≡ n512r34
-last-of zero g h = absurd (g refl)
-last-of (suc zero) g h = absurd (h refl)
-last-of (suc (suc n)) g h = refl

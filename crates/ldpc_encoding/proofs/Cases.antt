@@ -4,9 +4,9 @@ use Rattle.bits.specs.Bits.{bitsOf, bits, numberAfter, packed}
 use Rattle.crc.specs.Cases.{Holds}
 use Rattle.tanner.specs.Checks.{xorFrom, countBytes}
 use Rattle.ldpc_encoding.specs.Cases.{codeCases}
-use Rattle.ldpc.specs.Code174.{rowsOfSeven, checks}
+use Rattle.code174.specs.Code174.{rowsOfSeven, checks}
 use Rattle.ldpc_encoding.specs.Encoding.{under, rowsOfTwelve, parityBits, encodeBits, codewordOf}
-use Rattle.ldpc.specs.Tables.{nm, numRows}
+use Rattle.code174.specs.Tables.{nm, numRows}
 use Rattle.ldpc_encoding.specs.Tables.{generator}
 
 pub code-cases : Holds codeCases

@@ -12,10 +12,10 @@ use lib.Dec.{eqb}
 use lib.ListN.{length, getD, take, drop, replicate, drop-of-length-le}
 use lib.Seq.{drop-cons}
 use Rattle.bits.specs.Bits.{bitsOf, bits}
-use Rattle.ldpc.specs.Agreement.{each}
+use Rattle.code174.specs.Agreement.{each}
 use Rattle.ldpc_encoding.specs.Bytes.{odd, byteParity, mixed}
 use Rattle.ldpc_encoding.specs.Encoding.{under}
-use Rattle.ldpc.proofs.Tests.{each-at}
+use Rattle.code174.proofs.Tests.{each-at}
 
 -- ---- a byte folded onto its low bit, as the code does: all 256 bytes
 

@@ -5,7 +5,7 @@ use Prim.Native.Nat.{ℕ}
 use lib.ListN.{getD, replicate}
 use Rattle.crc.specs.Cases.{Case}
 use Rattle.tanner.specs.Checks.{countBytes}
-use Rattle.ldpc.specs.Code174.{checks}
+use Rattle.code174.specs.Code174.{checks}
 use Rattle.ldpc_encoding.specs.Encoding.{codewordOf}
 
 -- a list of n that holds x first, and zeros after it

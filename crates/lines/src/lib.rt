@@ -1,4 +1,4 @@
-// The lines of a listing, written into a lent buffer: the head line, and a line for each frame.
+// The lines of a batch's frames, written into a lent buffer one after another.
 ghost use mathlib.Core.Path.{_≡_};
 ghost use mathlib.Core.List.{[]};
 ghost use Prim.Native.Nat.{_+_, _*_, _≤_};
@@ -7,64 +7,7 @@ ghost use Rattle.text.specs.Written.{Written};
 ghost use Rattle.batch.specs.Codes.{sizeN, sizeK};
 ghost use Rattle.batch.specs.Pairs.{pairsOf, framesOf, AllWithin};
 ghost use Rattle.batch.specs.Calls.{lent};
-ghost use Rattle.lines.specs.Lines.{headLine, cleanOrOpen, firstField, frameLine, lineAt, linesFrom};
-
-// The head line: the four numbers as given.
-pub fn head_line(out: &mut [u8], at: usize, code: u16, rule: u16, limit: u16, frames: u16) -> usize
-    requires { ⌜ at + length (headLine code rule limit frames) ≤ length (now out) ⌝ }
-    ensures { λ r. ⌜ Written (now (out .entry)) at (headLine code rule limit frames) (now (out .exit)) r ⌝ }
-{
-    let a = text::put_field(out, at, b"code ", code);
-    let b = text::put_field(out, a, b" rule ", rule);
-    let c = text::put_field(out, b, b" limit ", limit);
-    let d = text::put_field(out, c, b" frames ", frames);
-    text::put_byte(out, d, 10)
-}
-
-// The word of a frame, with the spaces around it.
-fn clean_or_open(out: &mut [u8], at: usize, clean: bool) -> usize
-    requires { ⌜ at + length (cleanOrOpen clean) ≤ length (now out) ⌝ }
-    ensures { λ r. ⌜ Written (now (out .entry)) at (cleanOrOpen clean) (now (out .exit)) r ⌝ }
-{
-    if clean {
-        return text::put_text(out, at, b" clean ");
-    }
-    text::put_text(out, at, b" open ")
-}
-
-// The first unsatisfied check, where there is one.
-fn first_field(out: &mut [u8], at: usize, count: u16, first: u16) -> usize
-    requires { ⌜ at + length (firstField count first) ≤ length (now out) ⌝ }
-    ensures { λ r. ⌜ Written (now (out .entry)) at (firstField count first) (now (out .exit)) r ⌝ }
-{
-    if count == 0 {
-        return at;
-    }
-    text::put_field(out, at, b" ", first)
-}
-
-// The line of one frame.
-fn frame_line(
-    out: &mut [u8],
-    at: usize,
-    place: u16,
-    count: u16,
-    rounds: u16,
-    clean: bool,
-    bits: &[u8],
-    first: u16,
-) -> usize
-    requires { ⌜ at + length (frameLine place count rounds clean (now bits) first) ≤ length (now out) ⌝ }
-    ensures { λ r. ⌜ Written (now (out .entry)) at (frameLine place count rounds clean (now (bits .entry)) first) (now (out .exit)) r ⌝ }
-{
-    let a = text::put_decimal(out, at, place);
-    let b = text::put_field(out, a, b" ", count);
-    let c = text::put_field(out, b, b" ", rounds);
-    let d = clean_or_open(out, c, clean);
-    let e = text::put_hex(out, d, bits);
-    let f = first_field(out, e, count, first);
-    text::put_byte(out, f, 10)
-}
+ghost use Rattle.lines.specs.Lines.{lineAt, linesFrom};
 
 // The lines of the frames that the pairs name.
 pub fn frame_lines(
@@ -96,7 +39,7 @@ pub fn frame_lines(
     while j < counts.len() {
         let to = from + k;
         let clean = clean_frames::clean_at(code, values, pairs, j, counts, bits);
-        next = frame_line(
+        next = one_line::frame_line(
             out,
             next,
             j as u16,

@@ -9,8 +9,8 @@ use Rattle.bits.specs.Bits.{numberAfter}
 use Rattle.checksum.specs.Qex.{bringDown, divide, qex}
 use Rattle.tanner.specs.Checks.{lowBits, parity, count, firstBy}
 use Rattle.tanner.specs.Flat.{joined}
-use Rattle.ldpc.specs.Tables.{nm, numRows}
-use Rattle.ldpc.specs.Code174.{rowsOfSeven, checks}
+use Rattle.code174.specs.Tables.{nm, numRows}
+use Rattle.code174.specs.Code174.{rowsOfSeven, checks}
 use Rattle.softmath.specs.Functions.{decide}
 use Rattle.one_round.specs.Round.{initialWord}
 use Rattle.rounds.specs.Rounds.{roundWords, chosenFrom, chosen, chosenCount, chosenFirst, chosenBits, roundsRun}
@@ -19,7 +19,8 @@ use Rattle.batch.specs.Pairs.{pairsOf, frameOf}
 use Rattle.batch.specs.Calls.{ruleNotOfCode, pairRefusals, refusalsOf, written}
 use Rattle.clean.specs.Clean.{anyNan, checksumRight, frameClean}
 use Rattle.text.specs.Text.{leading, decimal, byteAt, hexDigit, hexFrom, hex, field, refusalLine}
-use Rattle.lines.specs.Lines.{headLine, cleanOrOpen, firstField, frameLine, linesFrom}
+use Rattle.one_line.specs.Line.{headLine, cleanOrOpen, firstField, frameLine}
+use Rattle.lines.specs.Lines.{linesFrom}
 use Rattle.batch_input.specs.Input.{u32sFrom, floatOf, pairNumbers, valuesOf, malformed}
 use Rattle.listing.specs.Listing.{framesText, listingOf}
 

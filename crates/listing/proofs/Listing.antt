@@ -14,9 +14,10 @@ use Rattle.batch.specs.Calls.{Lent, lent, Batch, batch, refusals, frames, writt
 use Rattle.batch_input.specs.Input.{codeOf, ruleOf, limitOf, scaleOf, pairNumbers, valuesOf, malformed}
 use Rattle.batch_input.specs.Handed.{batchIn}
 use Rattle.batch_input.proofs.Handed.{accepted-few, pairs-many}
-use Rattle.lines.specs.Lines.{headLine, lineAt, linesFrom}
-use Rattle.lines.proofs.Lengths.{head-short, lines-short}
-use Rattle.lines.proofs.Lines.{line-short}
+use Rattle.one_line.specs.Line.{headLine}
+use Rattle.lines.specs.Lines.{lineAt, linesFrom}
+use Rattle.one_line.proofs.Lengths.{head-short}
+use Rattle.lines.proofs.Lines.{line-short, lines-short}
 use Rattle.listing.specs.Listing.{framesText, listingOf}
 
 -- the whole text is short

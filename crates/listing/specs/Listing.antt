@@ -6,7 +6,8 @@ use Rattle.refusal.specs.Outcome.{judged}
 use Rattle.text.specs.Text.{printed}
 use Rattle.batch.specs.Calls.{Lent, Batch, frames, written}
 use Rattle.batch_input.specs.Handed.{batchIn, inputRefusals}
-use Rattle.lines.specs.Lines.{headLine, lineAt, linesFrom}
+use Rattle.one_line.specs.Line.{headLine}
+use Rattle.lines.specs.Lines.{lineAt, linesFrom}
 
 -- the head line, and a line for each frame
 unfoldable pub framesText : Batch → Lent → List ℕ

@@ -40,7 +40,7 @@ fn write_frames(
     let rule = input[1] as u16;
     let limit = batch_input::u16_at(input, 2);
     let frames = batch_input::u16_at(input, 8);
-    let at = lines::head_line(out, 0, code as u16, rule, limit, frames);
+    let at = one_line::head_line(out, 0, code as u16, rule, limit, frames);
     lines::frame_lines(
         out,
         at,

@@ -3,7 +3,7 @@ use Prim.Native.Nat.{ℕ, zero, suc}
 use Rattle.construction.specs.Codes.{Code, blockLength}
 use Rattle.staircase.specs.Codes.{codeOf}
 use Rattle.staircase.specs.Codes as staircase
-use Rattle.ldpc.specs.Code174 as code174
+use Rattle.code174.specs.Code174 as code174
 use Rattle.tanner.specs.Checks.{Checks}
 
 -- "Code 0 to 2 as above, 3 is (174,91)." (A number above 3 is refused.)

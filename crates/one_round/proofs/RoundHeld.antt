@@ -14,7 +14,7 @@ use Rattle.slots.specs.Layout.{Slotted, slotPlace, padPlaces, scattered}
 use Rattle.slots.proofs.Edges.{slot-injective, slot-inside}
 use Rattle.construction.specs.Codes.{n512r12, n576r23, n512r34}
 use Rattle.staircase.proofs.Positions.{checks-low}
-use Rattle.ldpc.proofs.Graph as ft8
+use Rattle.code174.proofs.Graph as ft8
 use Rattle.check_node.specs.CheckStep.{AtColumns, padOf}
 use Rattle.variable_node.specs.Passes.{Pass, passOf, turns}
 use Rattle.passes.specs.Codes.{sizeN, sizeM, checksBy, kindBy, degree, room}

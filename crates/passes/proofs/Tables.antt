@@ -16,9 +16,9 @@ use Rattle.n512r34.proofs.Tables.{taps2, taps-right2, places2, places-right2}
 use Rattle.stairs.specs.Stairs.{Stairs}
 use Rattle.stairs.proofs.Codes.{allBelow, tested, stairs0, stairs1, stairs2}
 use Rattle.stairs.proofs.BySlots.{stairs-slotted, stairs-pads, stairs-edges}
-use Rattle.ldpc.specs.Code174 as code174
-use Rattle.ldpc.proofs.Arrays.{slotEdge, slotPads}
-use Rattle.ldpc.proofs.BySlots.{slotted, pads-right, edges-size, edges-low}
+use Rattle.code174.specs.Code174 as code174
+use Rattle.code174.proofs.Arrays.{slotEdge, slotPads}
+use Rattle.code174.proofs.BySlots.{slotted, pads-right, edges-size, edges-low}
 use Rattle.variable_node.specs.Passes.{Listed}
 use Rattle.passes.specs.Codes.{sizeM, checksBy, degree, room}
 use Rattle.passes.specs.Passes.{StairEdges}

@@ -18,16 +18,16 @@ use Rattle.n576r23.proofs.Tables.{checkStarts1, checkBits1, check-starts-right1
 use Rattle.n512r34.proofs.Tables.{checkStarts2, checkBits2, check-starts-right2, check-bits-right2}
 use Rattle.staircase.proofs.Positions.{checks-many}
 use Rattle.ldpc_codes.proofs.Laid.{laid-flat}
-use Rattle.ldpc.specs.Code174 as code174
-use Rattle.ldpc.specs.Agreement.{each}
-use Rattle.ldpc.proofs.Tests.{each-at}
-use Rattle.ldpc.proofs.Arrays.{checkStart, checkBits}
-use Rattle.ldpc.proofs.Graph.{check-start, flat, laid, many}
+use Rattle.code174.specs.Code174 as code174
+use Rattle.code174.specs.Agreement.{each}
+use Rattle.code174.proofs.Tests.{each-at}
+use Rattle.code174.proofs.Arrays.{checkStart, checkBits}
+use Rattle.code174.proofs.Graph.{check-start, flat, laid, many}
 use Rattle.text.specs.Written.{Written}
 use Rattle.first_reason.specs.declared.Reason.{Reason}
 use Rattle.numbered.specs.Codes.{sizeN, checksBy}
-use Rattle.reason_text.specs.Lines.{checkLine, reasonLine}
-use Rattle.reason_text.proofs.Lengths.{Short, check-short, reason-short}
+use Rattle.reason_lines.specs.Lines.{checkLine, reasonLine}
+use Rattle.reason_lines.proofs.Lengths.{Short, check-short, reason-short}
 
 -- ---- no check is long
 
@@ -105,9 +105,9 @@ module _ {code : ℕ} {starts positions : List ℕ} (t : Tables code starts posi
   asks n h m room =
       (rw n (t .flat), (omega (arith, t .many), rw (t .rows) (omega (arith, check-short (checksBy code) word (t .short) c))))
 
-  pub gives : (k : ℕ) → k ≡ code → {out after : List ℕ} {r : ℕ} → Written out 0 (checkLine (rowsOf starts positions) word c) after r
-      → Written out 0 (checkLine (checksBy k) word c) after r
-  gives k e {out} {after} {r} w = subst (λ (cs : Checks). Written out 0 (checkLine cs word c) after r) (t .rows ∙ ap checksBy (sym e)) w
+  pub gives : {out after : List ℕ} {r : ℕ} → Written out 0 (checkLine (rowsOf starts positions) word c) after r
+      → Written out 0 (checkLine (checksBy code) word c) after r
+  gives {out} {after} {r} w = subst (λ (cs : Checks). Written out 0 (checkLine cs word c) after r) (t .rows) w
 
 -- the line of a reason, once it is known which one it is
 pub line-of : (code : ℕ) (word : Word) (reason known : Reason) → reason ≡ known → {out after : List ℕ} {r : ℕ}

@@ -18,7 +18,7 @@ use lib.Ieee.Bits.{ofBits-fits}
 use Rattle.softmath.specs.Single.{_⊕_, _⊗_, zero32, one32, two32, foldFrom, product}
 use Rattle.softmath.specs.Functions.{atanh, clampUnit}
 use Rattle.softmath.specs.CheckNode.{halfTanh, negatedHalfTanh, clampedAnswer, negatedAnswer, ft8Answer}
-use Rattle.ldpc.proofs.Agreement.{agreed}
+use Rattle.code174.proofs.Agreement.{agreed}
 use Rattle.signs.specs.Signs.{oddly, negative, oddNegatives, oddLength, NoneNan, Nonzero, productOf, ProductSign, negatedProductOf, nearPole, BelowPole}
 use Rattle.signs.specs.Signs.{NegatedSign, Ft8Signs}
 use Rattle.signs.proofs.Rounded.{Signed, infinite, finite, Held, Part, part, part-signed, round-part}

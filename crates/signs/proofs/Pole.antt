@@ -17,8 +17,8 @@ use lib.Ieee.Fits.{and-l, and-r}
 use Rattle.softmath.specs.Single.{_⊗_, zero32, one32, foldFrom, product}
 use Rattle.softmath.specs.Functions.{tanh, tanhFraction}
 use Rattle.softmath.specs.CheckNode.{negatedHalfTanh}
-use Rattle.ldpc.specs.Agreement.{each}
-use Rattle.ldpc.proofs.Tests.{and-right, each-at}
+use Rattle.code174.specs.Agreement.{each}
+use Rattle.code174.proofs.Tests.{and-right, each-at}
 use Rattle.signs.specs.Signs.{NoneNan, empty, more, nearPole, BelowPole}
 use Rattle.signs.proofs.Rounded.{Signed, infinite, finite, Part, part, part-signed}
 use Rattle.signs.proofs.Laws.{between-edges}

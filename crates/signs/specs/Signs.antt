@@ -8,8 +8,8 @@ use lib.ListN.{length}
 use lib.Ieee.{Float, binary32, ofBits, unlike, neg, lt, eq, isNan}
 use Rattle.softmath.specs.Single.{zero32, product}
 use Rattle.softmath.specs.CheckNode.{halfTanh, negatedHalfTanh, sumProductAnswer, ft8Answer}
-use Rattle.ldpc.specs.Tables.{numRows}
-use Rattle.ldpc.specs.Agreement.{times}
+use Rattle.code174.specs.Tables.{numRows}
+use Rattle.code174.specs.Agreement.{times}
 
 -- ---- how many messages are negative
 

@@ -1,3 +1,4 @@
 pub mod EdgeCount
 pub mod Positions
 pub mod Cases
+pub mod Codes

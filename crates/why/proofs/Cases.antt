@@ -8,8 +8,8 @@ use Rattle.bits.specs.Bits.{numberAfter}
 use Rattle.checksum.specs.Qex.{bringDown, divide, qex}
 use Rattle.tanner.specs.Checks.{lowBits, parity, count, firstBy}
 use Rattle.tanner.specs.Flat.{joined}
-use Rattle.ldpc.specs.Tables.{nm, numRows}
-use Rattle.ldpc.specs.Code174.{rowsOfSeven, checks}
+use Rattle.code174.specs.Tables.{nm, numRows}
+use Rattle.code174.specs.Code174.{rowsOfSeven, checks}
 use Rattle.softmath.specs.Functions.{decide}
 use Rattle.one_round.specs.Round.{initialWord}
 use Rattle.rounds.specs.Rounds.{roundWords, chosenFrom, chosen}
@@ -23,7 +23,7 @@ use Rattle.first_reason.specs.declared.Reason.the-variants.{Nan, Check, Checksu
 use Rattle.numbered.specs.Codes.{checksBy}
 use Rattle.first_reason.specs.Reasons.{firstNan, checksumOr, reasonFor}
 use Rattle.reason.specs.Under.{reasonUnder}
-use Rattle.reason_text.specs.Lines.{nanLine, pairText, entry, entries, checkLine, checksumLine, cleanLine, reasonLine}
+use Rattle.reason_lines.specs.Lines.{nanLine, pairText, entry, entries, checkLine, checksumLine, cleanLine, reasonLine}
 use Rattle.why.specs.Why.{frameLine, whyOf}
 
 -- ---- lines

@@ -17,7 +17,7 @@ use Rattle.numbered.specs.Codes.{checksBy}
 use Rattle.reason.specs.Under.{reasonUnder}
 use Rattle.first_reason.specs.Holds.{Holds, byNan, byCheck, byChecksum, isClean}
 use Rattle.reason.proofs.Under.{under-holds}
-use Rattle.reason_text.specs.Lines.{reasonLine, Named}
+use Rattle.reason_lines.specs.Lines.{reasonLine, Named}
 use Rattle.why.specs.Why.{frameLine}
 
 named-by : (code : ℕ) (values : List Float) (word : Word) {r : Reason} → Holds code values word r → Named (checksBy code) r

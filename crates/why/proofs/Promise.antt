@@ -15,7 +15,7 @@ use Rattle.first_reason.specs.declared.Reason.the-variants.{Nan, Check, Checksu
 use Rattle.numbered.specs.Codes.{checksBy}
 use Rattle.reason.specs.Under.{reasonUnder}
 use Rattle.reason.proofs.Under.{under-holds, clean-exactly}
-use Rattle.reason_text.specs.Lines.{nanLine, checkLine, checksumLine, cleanLine, reasonLine}
+use Rattle.reason_lines.specs.Lines.{nanLine, checkLine, checksumLine, cleanLine, reasonLine}
 use Rattle.why.specs.Why.{whyRefusals, frameLine, whyOf}
 use Rattle.why.specs.Promise.{Accepted, batchAsked, valuesAsked, wordAsked, cleanAsked, Explains, CleanPrinted}
 

@@ -14,7 +14,7 @@ use Rattle.batch_input.specs.Handed.{batchIn}
 use Rattle.first_reason.specs.declared.Reason.{Reason}
 use Rattle.numbered.specs.Codes.{checksBy}
 use Rattle.first_reason.specs.Holds.{Holds}
-use Rattle.reason_text.specs.Lines.{reasonLine, cleanLine}
+use Rattle.reason_lines.specs.Lines.{reasonLine, cleanLine}
 use Rattle.why.specs.Why.{placeOf, batchOf, whyRefusals, frameAt, whyOf}
 
 -- an input that is not refused

@@ -13,7 +13,7 @@ use Rattle.batch_input.specs.Input.{u16At, pairCount}
 use Rattle.batch_input.specs.Handed.{batchIn, inputRefusals}
 use Rattle.numbered.specs.Codes.{checksBy}
 use Rattle.reason.specs.Under.{reasonUnder}
-use Rattle.reason_text.specs.Lines.{reasonLine}
+use Rattle.reason_lines.specs.Lines.{reasonLine}
 
 -- ---- the input
 

@@ -1,7 +1,7 @@
 -- `erasure::fill_ft8` meets its contract: the code's flat tables hold its checks. Assumes nothing.
 use native.Mathlib.Omega.{arith}
-use Rattle.ldpc.proofs.Arrays.{checkStart, checkBits}
-use Rattle.ldpc.proofs.Graph.{flat, laid}
+use Rattle.code174.proofs.Arrays.{checkStart, checkBits}
+use Rattle.code174.proofs.Graph.{flat, laid}
 use Rattle.erasure.proofs.Answers.{at-checks}
 use Rattle.numbered.specs.Codes.{sizeN, checksBy}
 use Rattle.erasure.specs.Calls.{erasureRefusals}

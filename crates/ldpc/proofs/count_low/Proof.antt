@@ -2,7 +2,7 @@
 use mathlib.Core.Path.{refl, ap, _∙_}
 use Rattle.tanner.specs.Masked.{countMasked}
 use Rattle.ldpc.specs.Rows.{sevens}
-use Rattle.ldpc.specs.Tables.{nm}
+use Rattle.code174.specs.Tables.{nm}
 use Rattle.ldpc.proofs.Sevens.{behind-counted}
 use borrow.Author.Needs.{needs}
 use Rattle.ldpc.proofs.count_low.Statement.{statement}

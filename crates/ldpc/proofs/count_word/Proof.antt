@@ -3,7 +3,7 @@ use mathlib.Core.Path.{_≡_, refl}
 use Prim.Native.Nat.{ℕ, _+_}
 use native.Mathlib.Omega.{arith}
 use Rattle.tanner.specs.Masked.{countMasked}
-use Rattle.ldpc.specs.Tables.{nm}
+use Rattle.code174.specs.Tables.{nm}
 use Rattle.ldpc.specs.Rows.{sevens}
 use Rattle.ldpc.proofs.Sevens.{nm-part, first-rows, rows-and, rows-few}
 use borrow.Author.Needs.{needs}

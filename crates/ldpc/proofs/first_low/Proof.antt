@@ -3,7 +3,7 @@ use mathlib.Core.Path.{refl, ap, _∙_}
 use lib.ListN.{length}
 use Rattle.tanner.specs.Masked.{firstMasked}
 use Rattle.ldpc.specs.Rows.{sevens}
-use Rattle.ldpc.specs.Tables.{nm}
+use Rattle.code174.specs.Tables.{nm}
 use Rattle.ldpc.proofs.Sevens.{behind-first}
 use borrow.Author.Needs.{needs}
 use Rattle.ldpc.proofs.first_low.Statement.{statement}

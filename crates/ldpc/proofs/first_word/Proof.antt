@@ -1,5 +1,5 @@
 -- `ldpc::first_word` meets its contract: the table lent is `NM`. Assumes nothing.
-use Rattle.ldpc.specs.Tables.{nm}
+use Rattle.code174.specs.Tables.{nm}
 use Rattle.ldpc.proofs.Sevens.{nm-whole}
 use borrow.Author.Needs.{needs}
 use Rattle.ldpc.proofs.first_word.Statement.{statement}

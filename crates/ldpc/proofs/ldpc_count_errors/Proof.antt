@@ -8,7 +8,7 @@ use lib.ListN.{drop}
 use Rattle.refusal.specs.Outcome.{accepted}
 use Rattle.tanner.specs.Masked.{syndromeMasked}
 use Rattle.tanner.specs.Flat.{Below}
-use Rattle.ldpc.specs.Code174.{checks}
+use Rattle.code174.specs.Code174.{checks}
 use Rattle.ldpc.proofs.Counting.{bytes-counted}
 use borrow.Author.Needs.{needs}
 use Rattle.ldpc.proofs.ldpc_count_errors.Statement.{statement}

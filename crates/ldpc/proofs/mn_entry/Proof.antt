@@ -1,7 +1,7 @@
 -- `ldpc::mn_entry` meets its contract: the constant is the definition's table, by computation.
 use mathlib.Core.Path.{refl}
 use borrow.Author.Needs.{needs}
-use Rattle.ldpc.specs.Tables.{mn}
+use Rattle.code174.specs.Tables.{mn}
 use Rattle.ldpc.proofs.mn_entry.Statement.{statement}
 use Rattle.ldpc.proofs.mn_entry.Tie as tie
 

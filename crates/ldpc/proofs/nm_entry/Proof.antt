@@ -1,7 +1,7 @@
 -- `ldpc::nm_entry` meets its contract: the constant is the definition's table, by computation.
 use mathlib.Core.Path.{refl}
 use borrow.Author.Needs.{needs}
-use Rattle.ldpc.specs.Tables.{nm}
+use Rattle.code174.specs.Tables.{nm}
 use Rattle.ldpc.proofs.nm_entry.Statement.{statement}
 use Rattle.ldpc.proofs.nm_entry.Tie as tie
 

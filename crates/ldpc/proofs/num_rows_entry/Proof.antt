@@ -1,7 +1,7 @@
 -- `ldpc::num_rows_entry` meets its contract: the constant is the definition's table, by computation.
 use mathlib.Core.Path.{refl}
 use borrow.Author.Needs.{needs}
-use Rattle.ldpc.specs.Tables.{numRows}
+use Rattle.code174.specs.Tables.{numRows}
 use Rattle.ldpc.proofs.num_rows_entry.Statement.{statement}
 use Rattle.ldpc.proofs.num_rows_entry.Tie as tie
 

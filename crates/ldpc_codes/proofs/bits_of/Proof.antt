@@ -1,6 +1,6 @@
 -- `ldpc_codes::bits_of` meets its contract, code by code. Assumes nothing.
 use mathlib.Core.Path.{refl}
-use Rattle.ldpc_codes.proofs.Laid.{last-of}
+use Rattle.staircase.proofs.Codes.{last-of}
 use Rattle.ldpc_codes.proofs.bits_of.Statement.{statement}
 use Rattle.ldpc_codes.proofs.bits_of.Tie as tie
 

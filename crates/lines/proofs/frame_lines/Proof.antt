@@ -15,9 +15,9 @@ use Rattle.batch.specs.Calls.{Lent, lent}
 use Rattle.batch.proofs.Frames.{place-fits}
 use Rattle.clean_frames.specs.CleanFrames.{cleanOf}
 use Rattle.clean_frames.proofs.FrameAt.{bits-at}
-use Rattle.lines.specs.Lines.{frameLine, lineAt, linesFrom}
-use Rattle.lines.proofs.Lengths.{lines-short}
-use Rattle.lines.proofs.Lines.{lines-more, lines-none, line-short}
+use Rattle.one_line.specs.Line.{frameLine}
+use Rattle.lines.specs.Lines.{lineAt, linesFrom}
+use Rattle.lines.proofs.Lines.{lines-more, lines-none, line-short, lines-short}
 use borrow.Author.Needs.{needs}
 use Rattle.lines.proofs.frame_lines.Statement.{statement}
 use Rattle.lines.proofs.frame_lines.Tie as tie

@@ -7,8 +7,8 @@ use lib.ListN.{length}
 use Rattle.text.proofs.Put.{then, room-left}
 use Rattle.batch.specs.Pairs.{pairsOf}
 use Rattle.batch_input.specs.Input.{codeOf, ruleOf, limitOf}
-use Rattle.lines.specs.Lines.{headLine}
-use Rattle.lines.proofs.Lengths.{head-short}
+use Rattle.one_line.specs.Line.{headLine}
+use Rattle.one_line.proofs.Lengths.{head-short}
 use Rattle.listing.specs.Listing.{framesText}
 use borrow.Author.Needs.{needs}
 use Rattle.listing.proofs.write_frames.Statement.{statement}

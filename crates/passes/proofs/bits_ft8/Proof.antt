@@ -2,8 +2,8 @@
 use mathlib.Core.Path.{refl, _∙_}
 use native.Mathlib.Omega.{arith}
 use Rattle.softmath.specs.declared.SumKind.the-variants.{Others}
-use Rattle.ldpc.proofs.Arrays.{slotEdge}
-use Rattle.ldpc.proofs.BySlots.{edges-right}
+use Rattle.code174.proofs.Arrays.{slotEdge}
+use Rattle.code174.proofs.BySlots.{edges-right}
 use Rattle.passes.specs.Codes.{sizeN, sizeM, checksBy, kindBy, degree, room}
 use Rattle.passes.proofs.Turns.{all-bits}
 use Rattle.passes.proofs.Tables.{listed3}

@@ -1,7 +1,7 @@
 -- `passes::check_pass` meets its contract, code by code: its pads are the places that its checks lack. Assumes nothing.
 use mathlib.Core.Path.{refl}
 use native.Mathlib.Omega.{arith}
-use Rattle.ldpc.proofs.Arrays.{slotPads}
+use Rattle.code174.proofs.Arrays.{slotPads}
 use Rattle.passes.specs.Codes.{sizeM, checksBy, degree, room}
 use Rattle.numbered.proofs.Codes.{last-code}
 use Rattle.passes.proofs.Tables.{pads0, pads1, pads2, pads3, one-below, pads-below, room-at}

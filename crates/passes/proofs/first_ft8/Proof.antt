@@ -1,8 +1,8 @@
 -- `passes::first_ft8` meets its contract: the table has the places of every bit. Assumes nothing.
 use mathlib.Core.Path.{refl, _∙_}
 use native.Mathlib.Omega.{arith}
-use Rattle.ldpc.proofs.Arrays.{slotEdge}
-use Rattle.ldpc.proofs.BySlots.{edges-right}
+use Rattle.code174.proofs.Arrays.{slotEdge}
+use Rattle.code174.proofs.BySlots.{edges-right}
 use Rattle.passes.specs.Codes.{sizeN, sizeM, checksBy, degree, room}
 use Rattle.passes.proofs.Turns.{all-first}
 use Rattle.passes.proofs.Tables.{listed3}

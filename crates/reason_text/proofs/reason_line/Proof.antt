@@ -6,8 +6,8 @@ use lib.ListN.{length}
 use Rattle.first_reason.specs.declared.Reason.{Reason}
 use Rattle.first_reason.specs.declared.Reason.the-variants.{Nan, Check, Checksum, Clean}
 use Rattle.numbered.specs.Codes.{checksBy}
-use Rattle.reason_text.specs.Lines.{cleanLine, reasonLine, Named}
-use Rattle.reason_text.proofs.Lengths.{reason-short}
+use Rattle.reason_lines.specs.Lines.{cleanLine, reasonLine, Named}
+use Rattle.reason_lines.proofs.Lengths.{reason-short}
 use Rattle.reason_text.proofs.Tables.{all-short, line-of}
 use borrow.Author.Needs.{needs}
 use Rattle.reason_text.proofs.reason_line.Statement.{statement}

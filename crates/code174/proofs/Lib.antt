@@ -1,0 +1,5 @@
+pub mod Arrays
+pub mod Tests
+pub mod Graph
+pub mod Agreement
+pub mod BySlots

@@ -1,0 +1,3 @@
+pub mod Tables
+pub mod Code174
+pub mod Agreement
