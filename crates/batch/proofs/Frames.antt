@@ -10,7 +10,7 @@ use lib.ListN.{length, getD, take, drop, set, length-set, length-append, length-
 use lib.Seq.{take-at, drop-cons, take-all, length-take-le}
 use Rattle.tanner.specs.Flat.{joined}
 use Rattle.work_area.specs.Area.{cleared}
-use Rattle.work_area.proofs.Fill.{fill-more, fill-done}
+use Rattle.lists.proofs.Loops.{fill-more, fill-done}
 use Rattle.batch.specs.Codes.{sizeN, sizeK}
 use Rattle.batch.specs.Pairs.{Pair, pair, pairsOf, frameOf, framesOf, AllWithin}
 use Rattle.batch.specs.Calls.{Lent, lent, Batch, frames, frameDecode, frameBits, frameCount, frameRounds, frameFirst, written}
@@ -52,7 +52,7 @@ pub column-done : (f : List Float → ℕ) (values : List Float) (ps : List Pair
     → out ≡ map f (framesOf values ps)
 column-done f values ps j out h c =
     let all = column-length f values ps in
-    fill-done (map f (framesOf values ps)) 0 out j (omega (arith, all)) (c .size ∙ sym all) (c .front)
+    fill-done (map f (framesOf values ps)) 0 out j (omega (arith, all)) (omega (arith, c .size)) (c .front)
 
 -- ---- the frame of pair j
 
@@ -88,7 +88,7 @@ module _ (values : List Float) (ps : List Pair) (n j : ℕ) (w : AllWithin n (le
       in
       record {
         size = length-set out j (f own) ∙ c .size;
-        front = fill-more (map f (framesOf values ps)) (f beyond) out j (f own) (omega (arith, all)) (c .size ∙ sym all) here (c .front);
+        front = fill-more (map f (framesOf values ps)) (f beyond) out j (f own) (omega (arith, all)) (omega (arith, c .size)) here (c .front);
       }
 
   -- the bits of the frames from j on

@@ -11,8 +11,10 @@ use lib.Ieee.{Float}
 use lib.ListN.{length, getD, take, drop, length-map, length-drop}
 use lib.Seq.{take-at, drop-append-add, length-take-le}
 use Rattle.tanner.specs.Checks.{Word, count, firstUnsatisfied}
-use Rattle.tanner.specs.Flat.{joined, Below}
-use Rattle.tanner.proofs.Below.{below-take}
+use Rattle.tanner.specs.Flat.{joined}
+use Rattle.lists.proofs.Parts.{map-at}
+use Rattle.lists.specs.Below.{Below}
+use Rattle.lists.proofs.Below.{below-take}
 use Rattle.construction.specs.Codes.{Code, blockLength}
 use Rattle.staircase.specs.Codes.{codeOf, columns, checks}
 use Rattle.staircase.specs.Staircase.{encoded}
@@ -82,11 +84,6 @@ module _ (d : Decode) where
       (unless-proper (eqb (count (d .checks) (initialWord d)) 0) (from-proper limit (firstMessages d)))
 
 -- ---- what the call gives at a place
-
-map-at : {A B : Type 0} (f : A → B) (l : List A) (j : ℕ) (a : A) (b : B) → j < length l → getD (map f l) j b ≡ f (getD l j a)
-map-at f [] j a b h = absurd (omega arith)
-map-at f (x ∷ l) zero a b h = refl
-map-at f (x ∷ l) (suc j) a b h = map-at f l j a b (omega arith)
 
 -- of lists of one length, laid one after another, the one at place j
 joined-at : (k : ℕ) (ls : List (List ℕ)) → ((i : ℕ) → i < length ls → length (getD ls i []) ≡ k) → (j : ℕ) → j < length ls

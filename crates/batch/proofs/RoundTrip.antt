@@ -8,7 +8,7 @@ use lib.Ieee.{Float}
 use lib.ListN.{length, take}
 use lib.Seq.{take-at}
 use Rattle.tanner.specs.Checks.{count, lowBits}
-use Rattle.tanner.specs.Flat.{Below}
+use Rattle.lists.specs.Below.{Below}
 use Rattle.tanner.proofs.First.{count-none}
 use Rattle.construction.specs.Codes.{Code}
 use Rattle.staircase.specs.Codes.{codeOf, columns, checks}

@@ -5,7 +5,7 @@ use Prim.Native.Nat.{ℕ}
 use lib.Ieee.{Float}
 use lib.ListN.{length}
 use Rattle.tanner.specs.Checks.{none}
-use Rattle.tanner.specs.Flat.{Below}
+use Rattle.lists.specs.Below.{Below}
 use Rattle.softmath.specs.Functions.{decide}
 use Rattle.one_round.specs.Round.{Decode}
 use Rattle.rounds.specs.Rounds.{roundsRun, chosenCount, chosenFirst, chosenBits}

@@ -11,7 +11,7 @@ use Rattle.tanner.specs.Masked.{syndromeMasked}
 use Rattle.tanner.specs.Found.{syndromeOf}
 use Rattle.tanner.specs.declared.Counted.{Counted}
 use Rattle.tanner.specs.declared.FirstCheck.the-variants.{Satisfied}
-use Rattle.tanner.specs.Flat.{Below}
+use Rattle.lists.specs.Below.{Below}
 use Rattle.tanner.proofs.First.{both, count-none}
 use Rattle.passes.specs.Codes.{checksBy}
 use Rattle.one_round.specs.Round.{Decode, initialWord, firstMessages}

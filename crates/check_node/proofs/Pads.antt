@@ -15,6 +15,7 @@ use Rattle.softmath.specs.CheckNode.{atEach, minSum, turned, halfTanh, negatedH
 use Rattle.by_others.specs.Others.{lesserOf, turnedBy, othersSum}
 use Rattle.softmath.specs.declared.DecodeRule.{DecodeRule}
 use Rattle.softmath.specs.declared.DecodeRule.the-variants.{SumProduct, MinSum, ScaledMinSum, Ft8}
+use Rattle.softmath.proofs.Floats.{fold-fits}
 use Rattle.softmath.proofs.Steps.{map-same, step-parts}
 use Rattle.softmath.proofs.LeaveOneOut.{carriedFrom, fold-append, prefix-shared}
 use Rattle.by_others.proofs.ByOthers.{answersFrom, others-shared, same-answers}
@@ -33,14 +34,9 @@ negated-tanh-pad = refl
 
 -- ---- products
 
-product-fits : (s : Float) (xs : List Float) → T (fits binary32 s) → T (fits binary32 (foldFrom _⊗_ s xs))
-unfolding foldFrom
-product-fits s [] h = h
-product-fits s (x ∷ xs) h = product-fits (s ⊗ x) xs (mul-fits binary32 s x)
-
 product-pad : (s : Float) (xs : List Float) → T (fits binary32 s) → foldFrom _⊗_ s (xs ++ (one32 ∷ [])) ≡ foldFrom _⊗_ s xs
 unfolding foldFrom
-product-pad s xs h = fold-append _⊗_ s xs (one32 ∷ []) ∙ times-one (foldFrom _⊗_ s xs) (product-fits s xs h)
+product-pad s xs h = fold-append _⊗_ s xs (one32 ∷ []) ∙ times-one (foldFrom _⊗_ s xs) (fold-fits s xs h)
 
 carried-pad : (s : Float) (xs : List Float) → T (fits binary32 s) → take (length xs) (carriedFrom _⊗_ s (xs ++ (one32 ∷ []))) ≡ carriedFrom _⊗_ s xs
 unfolding carriedFrom

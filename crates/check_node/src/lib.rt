@@ -5,7 +5,7 @@ ghost use mathlib.Core.List.{List};
 ghost use Prim.Native.Nat.{_*_, _≤_};
 ghost use lib.Ieee.{Float};
 ghost use lib.ListN.{length};
-ghost use Rattle.tanner.specs.Flat.{Below};
+ghost use Rattle.lists.specs.Below.{Below};
 ghost use Rattle.softmath.specs.Single.{product};
 ghost use Rattle.softmath.specs.CheckNode.{atEach, middle, checkStep, minSum, factorOf};
 ghost use Rattle.slots.specs.Layout.{scattered};

@@ -3,13 +3,13 @@
 use mathlib.Core.Path.{_≡_, sym, ap, _∙_}
 use mathlib.Core.Bool.{true}
 use mathlib.Core.List.{List}
+use mathlib.Mathlib.Data.Bool.Basic.{and-elim-left}
 use Prim.Native.Nat.{ℕ, _≤_}
 use native.Mathlib.Omega.{arith}
 use borrow.Author.Tests.{eqb-true}
 use lib.Dec.{eqb}
 use lib.Ieee.{Float}
 use lib.ListN.{take}
-use Rattle.code174.proofs.Tests.{and-left}
 use Rattle.rounds.specs.Rounds.{chosenCount, chosenBits}
 use Rattle.belief.proofs.Words.{count-falls, same-chosen}
 use Rattle.batch.specs.Codes.{sizeK, decodeOf}
@@ -20,7 +20,7 @@ use Rattle.clean_frames.specs.Limits.{cleanUnder, cleanAt, StaysClean, C
 
 clean-zero : (code : ℕ) (values : List Float) (count : ℕ) (bits : List ℕ) → frameClean code values count bits ≡ true → count ≡ 0
 unfolding frameClean
-clean-zero code values count bits h = eqb-true count 0 (and-left (eqb count 0) _ h)
+clean-zero code values count bits h = eqb-true count 0 (and-elim-left (eqb count 0) _ h)
 
 -- a count no greater, and bits that are equal where the counts are
 clean-still : (code : ℕ) (values : List Float) (count count′ : ℕ) (bits bits′ : List ℕ) → count′ ≤ count → (count ≡ count′ → bits ≡ bits′)

@@ -2,6 +2,7 @@
 use mathlib.Core.Path.{_≡_, refl, sym, ap, ap₂, _∙_}
 use mathlib.Core.Bool.{Bool, true, false, cond, _&&_, Bool·beq}
 use mathlib.Core.List.{List, [], _∷_, _++_, map, map-append}
+use mathlib.Mathlib.Data.Bool.Basic.{and-elim-left, and-elim-right}
 use Prim.Native.Nat.{ℕ, zero, suc, pred, _+_, _<_, _≤_}
 use native.Mathlib.Nat.{add-zero, add-suc, suc-add, zero-add}
 use native.Mathlib.Omega.{arith}
@@ -14,7 +15,7 @@ use Rattle.tanner.proofs.Places.{places-append}
 use Rattle.code174.specs.Tables.{nm, numRows, mn}
 use Rattle.code174.specs.Code174.{rowsOfSeven, checks}
 use Rattle.code174.specs.Agreement.{each, same, times, listing, checkOfEdge, nmAt, mnAt, mnRow, rowHolds, positionHolds, tablesAgree, Agreed}
-use Rattle.code174.proofs.Tests.{and-left, and-right, each-at, same-lists, beq-same}
+use Rattle.code174.proofs.Tests.{each-at, same-lists, beq-same}
 
 -- ---- the test, computed over the whole tables
 
@@ -112,17 +113,17 @@ degrees = eqb (times 7 numRows) 24 && eqb (times 6 numRows) 59
 
 first-two : (degrees && each 83 rowHolds) ≡ true
 unfolding tablesAgree
-first-two = and-left (degrees && each 83 rowHolds) (each 174 positionHolds) tables-agree
+first-two = and-elim-left (degrees && each 83 rowHolds) (each 174 positionHolds) tables-agree
 
 degrees-hold : degrees ≡ true
-degrees-hold = and-left degrees (each 83 rowHolds) first-two
+degrees-hold = and-elim-left degrees (each 83 rowHolds) first-two
 
 row-at : (c : ℕ) → c < 83 → rowHolds c ≡ true
-row-at = each-at 83 rowHolds (and-right degrees (each 83 rowHolds) first-two)
+row-at = each-at 83 rowHolds (and-elim-right degrees (each 83 rowHolds) first-two)
 
 position-at : (p : ℕ) → p < 174 → positionHolds p ≡ true
 unfolding tablesAgree
-position-at = each-at 174 positionHolds (and-right (degrees && each 83 rowHolds) (each 174 positionHolds) tables-agree)
+position-at = each-at 174 positionHolds (and-elim-right (degrees && each 83 rowHolds) (each 174 positionHolds) tables-agree)
 
 module _ (c i : ℕ) (h : c < 83) (l : i < 7) where
   entry : (ltb i (getD numRows c 0) ≡ ltb 0 (nmAt c i)) × (nmAt c i ≤ 174)
@@ -131,7 +132,7 @@ module _ (c i : ℕ) (h : c < 83) (l : i < 7) where
       let there = Bool·beq (ltb i (getD numRows c 0)) (ltb 0 (nmAt c i)) in
       let low = ltb (nmAt c i) 175 in
       let both : (there && low) ≡ true = each-at 7 _ (row-at c h) i l in
-      (beq-same (ltb i (getD numRows c 0)) (ltb 0 (nmAt c i)) (and-left there low both), omega (arith, ltb-true (nmAt c i) 175 (and-right there low both)))
+      (beq-same (ltb i (getD numRows c 0)) (ltb 0 (nmAt c i)) (and-elim-left there low both), omega (arith, ltb-true (nmAt c i) 175 (and-elim-right there low both)))
 
 module _ (p : ℕ) (h : p < 174) where
   abbrev lower : Bool
@@ -142,21 +143,21 @@ module _ (p : ℕ) (h : p < 174) where
 
   ascending : (lower && upper) ≡ true
   unfolding positionHolds
-  ascending = and-left (lower && upper) (same (listing p 0 checks) (mnRow p)) (position-at p h)
+  ascending = and-elim-left (lower && upper) (same (listing p 0 checks) (mnRow p)) (position-at p h)
 
   rises : (0 < mnAt p 0) × (mnAt p 0 < mnAt p 1) × (mnAt p 1 < mnAt p 2) × (mnAt p 2 ≤ 83)
   rises =
-      let low = and-left lower upper ascending in
-      let high = and-right lower upper ascending in (
-        ltb-true _ _ (and-left (ltb 0 (mnAt p 0)) (ltb (mnAt p 0) (mnAt p 1)) low),
-        ltb-true _ _ (and-right (ltb 0 (mnAt p 0)) (ltb (mnAt p 0) (mnAt p 1)) low),
-        ltb-true _ _ (and-left (ltb (mnAt p 1) (mnAt p 2)) (ltb (mnAt p 2) 84) high),
-        omega (arith, ltb-true (mnAt p 2) 84 (and-right (ltb (mnAt p 1) (mnAt p 2)) (ltb (mnAt p 2) 84) high)),
+      let low = and-elim-left lower upper ascending in
+      let high = and-elim-right lower upper ascending in (
+        ltb-true _ _ (and-elim-left (ltb 0 (mnAt p 0)) (ltb (mnAt p 0) (mnAt p 1)) low),
+        ltb-true _ _ (and-elim-right (ltb 0 (mnAt p 0)) (ltb (mnAt p 0) (mnAt p 1)) low),
+        ltb-true _ _ (and-elim-left (ltb (mnAt p 1) (mnAt p 2)) (ltb (mnAt p 2) 84) high),
+        omega (arith, ltb-true (mnAt p 2) 84 (and-elim-right (ltb (mnAt p 1) (mnAt p 2)) (ltb (mnAt p 2) 84) high)),
       )
 
   listed : listing p 0 checks ≡ mnRow p
   unfolding positionHolds
-  listed = same-lists (listing p 0 checks) (mnRow p) (and-right (lower && upper) (same (listing p 0 checks) (mnRow p)) (position-at p h))
+  listed = same-lists (listing p 0 checks) (mnRow p) (and-elim-right (lower && upper) (same (listing p 0 checks) (mnRow p)) (position-at p h))
 
   edge-at : (c : ℕ) → times p (getD checks c []) ≡ times c (mnRow p)
   edge-at c = sym (rw zero-add at (times-listing p 0 c checks)) ∙ ap (times c) listed
@@ -170,8 +171,8 @@ module _ (p : ℕ) (h : p < 174) where
 -- the rule that later proofs cite
 pub agreed : Agreed
 agreed = record {
-  sevens = eqb-true _ _ (and-left (eqb (times 7 numRows) 24) (eqb (times 6 numRows) 59) degrees-hold);
-  sixes = eqb-true _ _ (and-right (eqb (times 7 numRows) 24) (eqb (times 6 numRows) 59) degrees-hold);
+  sevens = eqb-true _ _ (and-elim-left (eqb (times 7 numRows) 24) (eqb (times 6 numRows) 59) degrees-hold);
+  sixes = eqb-true _ _ (and-elim-right (eqb (times 7 numRows) 24) (eqb (times 6 numRows) 59) degrees-hold);
   entries = entry;
   rising = rises;
   order = listed;

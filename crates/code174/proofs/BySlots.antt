@@ -6,7 +6,8 @@ use Prim.Native.Nat.{ℕ, suc, _-_, _<_}
 use lib.Dec.{ltb, leb}
 use lib.ListN.{length, getD, drop}
 use borrow.Author.Tests.{ltb-true, leb-true}
-use Rattle.tanner.specs.Flat.{Below, places, edgesFrom}
+use Rattle.tanner.specs.Flat.{places, edgesFrom}
+use Rattle.lists.specs.Below.{Below}
 use Rattle.slots.specs.Layout.{Slotted, slotEdges, padPlaces, threeAt, threes}
 use Rattle.slots.proofs.Tables.{slotBy, padsBy, table-edges, table-pads, table-slotted}
 use Rattle.code174.specs.Code174.{checks}

@@ -7,7 +7,8 @@ use native.Mathlib.Omega.{arith}
 use lib.Dec.{ltb}
 use lib.ListN.{length, getD}
 use borrow.Author.Tests.{ltb-true}
-use Rattle.tanner.specs.Flat.{joined, ends, offsets, rowsOf, Below, FlatChecks}
+use Rattle.tanner.specs.Flat.{joined, ends, offsets, rowsOf, FlatChecks}
+use Rattle.lists.specs.Below.{Below}
 use Rattle.tanner.proofs.Flat.{rows-laid, flat-checks}
 use Rattle.code174.specs.Tables.{nm, numRows}
 use Rattle.code174.specs.Code174.{rowsOfSeven, checks}

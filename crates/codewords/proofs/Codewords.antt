@@ -3,6 +3,7 @@
 use mathlib.Core.Path.{_≡_, refl, sym, ap, ap₂, _∙_}
 use mathlib.Core.Bool.{true, cond, _&&_}
 use mathlib.Core.List.{List, [], _∷_, _++_, map}
+use mathlib.Mathlib.Data.Bool.Basic.{and-elim-left, and-elim-right}
 use Prim.Native.Nat.{ℕ, zero, suc, _+_, _-_, _%_, _^_}
 use native.Mathlib.Nat.{add-zero, add-suc}
 use native.Mathlib.Omega.{arith}
@@ -11,12 +12,11 @@ use lib.ListN.{length, getD, take, drop, take-append-drop, drop-of-length-le}
 use lib.Seq.{drop-cons, drop-at, getD-drop, drop-drop, length-take-le}
 use Rattle.bits.specs.Bits.{bitsOf, bits}
 use Rattle.tanner.specs.Checks.{Word, Checks, count}
-use Rattle.tanner.specs.Flat.{Below}
+use Rattle.lists.specs.Below.{Below}
 use Rattle.code174.specs.Tables.{nm, numRows}
 use Rattle.code174.specs.Code174.{rowsOfSeven, checks}
 use Rattle.ldpc_encoding.specs.Tables.{generator}
 use Rattle.ldpc_encoding.specs.Encoding.{under, rowsOfTwelve, parityBits, encodeBits}
-use Rattle.code174.proofs.Tests.{and-left, and-right}
 use Rattle.codewords.proofs.CheckSets.{checkSets}
 use Rattle.ldpc_encoding.proofs.Parity.{under-bit}
 use Rattle.codewords.proofs.Span.{Row, added, under-added, unit, under-unit, rowOf, under-row, under-take}
@@ -45,10 +45,10 @@ unfolding withOwn paritySet added unit rowOf addedIf sumAt empty sums checkSets 
 generator-fits = refl
 
 rows-from-checks : sums checkSets rows covered ≡ true
-rows-from-checks = and-left (sums checkSets rows covered) (sums (map paritySet checks) covered rows) generator-fits
+rows-from-checks = and-elim-left (sums checkSets rows covered) (sums (map paritySet checks) covered rows) generator-fits
 
 checks-from-rows : sums (map paritySet checks) covered rows ≡ true
-checks-from-rows = and-right (sums checkSets rows covered) (sums (map paritySet checks) covered rows) generator-fits
+checks-from-rows = and-elim-right (sums checkSets rows covered) (sums (map paritySet checks) covered rows) generator-fits
 
 -- ---- count 0: each check is even
 

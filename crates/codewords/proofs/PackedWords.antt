@@ -12,7 +12,7 @@ use Rattle.bits.proofs.Digits.{bits-are, bits-length, number-append, packed-bit
 use Rattle.bits.proofs.AreBits.{AreBits, none, more, areBits-append, areBits-take, zeros-are}
 use Rattle.bits.proofs.Packed.{unpacked, packed-bytes}
 use Rattle.tanner.specs.Checks.{Word}
-use Rattle.tanner.specs.Flat.{Below}
+use Rattle.lists.specs.Below.{Below}
 use Rattle.ldpc_encoding.specs.Encoding.{under, rowsOfTwelve, parityBits, encodeBits, codewordOf}
 use Rattle.ldpc_encoding.specs.Tables.{generator}
 use Rattle.ldpc_encoding.proofs.Codeword.{packed-at, packed-length, message-slack}

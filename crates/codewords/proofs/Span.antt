@@ -3,6 +3,7 @@
 use mathlib.Core.Path.{_≡_, refl, sym, ap, _∙_}
 use mathlib.Core.Bool.{Bool, true, false, _&&_}
 use mathlib.Core.List.{List, [], _∷_}
+use mathlib.Mathlib.Data.Bool.Basic.{and-elim-left, and-elim-right}
 use Prim.Native.Nat.{ℕ, zero, suc, _+_, _*_, _/_, _%_}
 use native.Mathlib.Nat.{add-mul, mul-assoc, mul-comm, div-add-mod'}
 use native.Mathlib.Omega.{arith}
@@ -10,7 +11,6 @@ use lib.ListN.{getD, take}
 use Rattle.tanner.specs.Checks.{Word, parity}
 use Rattle.ldpc_encoding.specs.Encoding.{under}
 use Rattle.ldpc_encoding.proofs.Parity.{under-bit}
-use Rattle.code174.proofs.Tests.{and-left, and-right}
 
 -- one entry, 0 or 1, for each position; past its end a row holds 0
 abbrev pub Row : Type 0
@@ -118,6 +118,6 @@ sums-even [] (r ∷ rs) others w t es = absurd (let z : _≡_ {A = ℕ} 0 1 = cc
 sums-even (n ∷ ns) [] others w t es = none
 sums-even (n ∷ ns) (r ∷ rs) others w t es =
     let here = empty (added r (sumAt n others)) in
-    let zero-sum : under (added r (sumAt n others)) w ≡ 0 = under-empty (added r (sumAt n others)) w (and-left here (sums ns rs others) t) in
+    let zero-sum : under (added r (sumAt n others)) w ≡ 0 = under-empty (added r (sumAt n others)) w (and-elim-left here (sums ns rs others) t) in
     more {r = r} (omega (arith, zero-sum, under-added r (sumAt n others) w, sum-even n w es, under-bit r w))
-    (sums-even ns rs others w (and-right here (sums ns rs others) t) es)
+    (sums-even ns rs others w (and-elim-right here (sums ns rs others) t) es)

@@ -5,7 +5,7 @@ use Prim.Native.Nat.{ℕ, _%_, _<_}
 use lib.ListN.{length, getD, take, replicate}
 use Rattle.bits.specs.Bits.{bits, packed}
 use Rattle.tanner.specs.Checks.{Word, count}
-use Rattle.tanner.specs.Flat.{Below}
+use Rattle.lists.specs.Below.{Below}
 use Rattle.code174.specs.Code174.{checks}
 use Rattle.ldpc_encoding.specs.Encoding.{encodeBits, codewordOf}
 

@@ -9,9 +9,10 @@ use borrow.Author.Tests.{eqb-true, eqb-false}
 use lib.Dec.{eqb}
 use lib.ListN.{length, getD, set, take, drop, length-set, length-take, replicate}
 use borrow.Author.Fill.{fill-more}
-use lib.Seq.{getD-set-same, getD-set-other, take-suc, drop-length, getD-take, getD-drop}
+use lib.Seq.{getD-set-same, getD-set-other, take-suc, drop-length}
 use Rattle.columns.specs.Rows.{holds, times, together}
-use Rattle.columns.specs.Tables.{flagAt, columnAt, columnsIn, AllBelow, Marked, MarkedWith, AllMarked, Loaded, Room}
+use Rattle.columns.specs.Tables.{flagAt, columnAt, columnsIn, Marked, MarkedWith, AllMarked, Loaded, Room}
+use Rattle.lists.specs.Below.{Below}
 use Rattle.columns.proofs.Columns.{holds-append, times-append, times-le}
 
 -- ---- one store
@@ -61,8 +62,8 @@ module _ (c u v : List ℕ) (i : ℕ) (more : i < length c) (size : length v ≡
       load-set-at v (getD c i 0) r (omega arith)
       ∙ rw (inv r h, add-one, take-suc c i 0 more, times-append (take i c) (getD c i 0 ∷ []) r, one-times (getD c i 0) r) (omega arith)
 
-  pub loaded-room : AllBelow (length u) c → Room (length c) u → Loaded (take i c) u v → getD v (getD c i 0) 0 + 1 < 65536
-  unfolding Room Loaded AllBelow
+  pub loaded-room : Below (length u) c → Room (length c) u → Loaded (take i c) u v → getD v (getD c i 0) 0 + 1 < 65536
+  unfolding Room Loaded Below
   loaded-room below room inv =
       let q = getD c i 0 in
       let s : length (take i c) ≤ i = simp length-take (omega arith) in
@@ -116,11 +117,3 @@ pub cleared-done : (u v : List ℕ) (i : ℕ) → length v ≤ i → i ≤ lengt
 cleared-done u v i h low size e =
     let n : i ≡ length u = omega arith in
     e ∙ rw (n, drop-length u, append-nil {A = ℕ} (replicate (length u) 0))
-
--- a part of rows that are all below m
-pub part-below : (m n a b : ℕ) (rows : List ℕ) → a + b ≤ n → n ≤ length rows → AllBelow m (take n rows) → AllBelow m (take b (drop a rows))
-unfolding AllBelow
-part-below m n a b rows fits long all i h =
-    let p : i < b = omega (arith, simp length-take at h) in
-    let q : a + i < length (take n rows) = simp length-take (omega arith) in
-    rw (getD-take b (drop a rows) i 0 p, getD-drop a rows i 0, ← getD-take n rows (a + i) 0 (omega arith)) (all (a + i) q)

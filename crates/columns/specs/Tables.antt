@@ -19,10 +19,6 @@ unfoldable pub columnsIn : List ℕ → ℕ → List (List ℕ)
 columnsIn rows zero = []
 columnsIn rows (suc n) = columnAt rows n ∷ columnsIn rows n
 
--- each of the rows is below m
-unfoldable pub AllBelow : ℕ → List ℕ → Type 0
-AllBelow m c = (i : ℕ) → i < length c → getD c i 0 < m
-
 -- v are the flags u with those of the rows
 unfoldable pub Marked : List ℕ → List ℕ → List ℕ → Type 0
 Marked c u v = (r : ℕ) → r < length u → flagAt v r ≡ (holds c r || flagAt u r)

@@ -4,7 +4,8 @@ ghost use mathlib.Core.List.{[], _∷_};
 ghost use Prim.Native.Nat.{_*_, _≤_, _<_};
 ghost use lib.ListN.{length, take, replicate};
 ghost use Rattle.columns.specs.Rows.{holds, sorted};
-ghost use Rattle.columns.specs.Tables.{columnsIn, AllBelow, Marked, MarkedWith, AllMarked, Loaded, Room};
+ghost use Rattle.columns.specs.Tables.{columnsIn, Marked, MarkedWith, AllMarked, Loaded, Room};
+ghost use Rattle.lists.specs.Below.{Below};
 
 // Whether the column holds the row.
 pub fn contains(column: &[u16], r: usize) -> bool
@@ -44,7 +45,7 @@ pub fn clear_loads(loads: &mut [u16])
 
 // A flag at each of the column's rows.
 fn mark_rows(marks: &mut [u8], column: &[u16])
-    requires { ⌜ AllBelow (length (now marks)) (now column) ⌝ }
+    requires { ⌜ Below (length (now marks)) (now column) ⌝ }
     ensures { λ _. ⌜ Marked (now (column .entry)) (now (marks .entry)) (now (marks .exit)) ⌝ }
 {
     let mut i = 0;
@@ -57,7 +58,7 @@ fn mark_rows(marks: &mut [u8], column: &[u16])
 
 // A flag at each of the column's rows, where it holds q.
 fn mark_column(marks: &mut [u8], column: &[u16], q: usize)
-    requires { ⌜ AllBelow (length (now marks)) (now column) ⌝ }
+    requires { ⌜ Below (length (now marks)) (now column) ⌝ }
     ensures { λ _. ⌜ MarkedWith (now (column .entry)) q (now (marks .entry)) (now (marks .exit)) ⌝ }
 {
     if contains(column, q) {
@@ -69,7 +70,7 @@ fn mark_column(marks: &mut [u8], column: &[u16], q: usize)
 pub fn mark_together(marks: &mut [u8], rows: &[u16], n: usize, q: usize)
     requires { ⌜ q < length (now marks) ⌝ }
     requires { ⌜ 3 * n ≤ length (now rows) ⌝ }
-    requires { ⌜ AllBelow (length (now marks)) (take (3 * n) (now rows)) ⌝ }
+    requires { ⌜ Below (length (now marks)) (take (3 * n) (now rows)) ⌝ }
     ensures { λ _. ⌜ AllMarked (columnsIn (now (rows .entry)) n) q (now (marks .entry)) (now (marks .exit)) ⌝ }
 {
     marks[q] = 1;
@@ -84,7 +85,7 @@ pub fn mark_together(marks: &mut [u8], rows: &[u16], n: usize, q: usize)
 
 // One more at the load of each of the column's rows.
 pub fn add_loads(loads: &mut [u16], column: &[u16])
-    requires { ⌜ AllBelow (length (now loads)) (now column) ⌝ }
+    requires { ⌜ Below (length (now loads)) (now column) ⌝ }
     requires { ⌜ Room (length (now column)) (now loads) ⌝ }
     ensures { λ _. ⌜ Loaded (now (column .entry)) (now (loads .entry)) (now (loads .exit)) ⌝ }
 {

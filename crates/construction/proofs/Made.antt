@@ -6,7 +6,8 @@ use native.Mathlib.Numerals.{add-one}
 use native.Mathlib.Omega.{arith}
 use lib.ListN.{length, take, drop, replicate, getD-replicate, length-replicate}
 use lib.Seq.{take-add, take-length}
-use Rattle.columns.specs.Tables.{columnAt, columnsIn, AllBelow, flagAt}
+use Rattle.columns.specs.Tables.{columnAt, columnsIn, flagAt}
+use Rattle.lists.specs.Below.{Below}
 use Rattle.placing.specs.OnePick.{load, skipped}
 use Rattle.placing.specs.Tables.{Loads, Flags, Ready, Begun, Finished}
 use Rattle.placing.proofs.Picks.{columns-same}
@@ -46,7 +47,7 @@ pub record Built (m n seed : ℕ) (rows loads marks : List ℕ) (state relaxed :
   pub relaxes : relaxed ≡ made n m seed .relaxed
   pub atMost : relaxed ≤ 3 * n
   pub columns : columnsIn rows n ≡ made n m seed .columns
-  pub below : AllBelow m (take (3 * n) rows)
+  pub below : Below m (take (3 * n) rows)
   pub clear : marks ≡ replicate m 0
 
 -- loads and flags that are cleared
@@ -68,7 +69,7 @@ unfolding Loads load
 zero-loads m r h = getD-replicate {A = ℕ} m r 0 0 (omega (arith, length-replicate {A = ℕ} m 0))
 
 pub built-none : {m k : ℕ} {rows loads marks : List ℕ} (seed : ℕ) → Blank m k rows loads marks → Built m 0 seed rows loads marks seed 0
-unfolding made columnsIn AllBelow
+unfolding made columnsIn Below
 built-none {m} seed b = record {
   ready = record {
     some = b .some;

@@ -6,6 +6,7 @@ use native.Mathlib.Nat.{mul-right-comm, mul-pos, zero-mul, zero-lt-suc}
 use native.Mathlib.Omega.{arith}
 use mathlib.Core.Bool.{Bool, true, false, not, _&&_, cond}
 use mathlib.Core.List.{List, [], _∷_, map}
+use mathlib.Mathlib.Data.Bool.Basic.{or-eq-false-eq-eq-false-and-eq-false as or-is-false}
 use lib.ListN.{length, length-map}
 use lib.Dec.{T, eqb, eqb·suc-zero}
 use lib.IntN.{ℤ, pos, negsuc, negℤ}
@@ -18,12 +19,12 @@ use mir.Syntax.{w8}
 use mir.Val.{SFits}
 use borrow.Author.Tests.{eqb-false, ne-eqb, not-false}
 use Rattle.refusal.specs.Outcome.{Outcome, accepted, refused}
-use Rattle.soft_bytes.specs.Values.{zero32, eighth32, isZero, isLeast, timesEighth, valueOf, wholeEighths, minusZero, passes, signed, byteOf}
+use Rattle.soft_bytes.specs.Values.{eighth32, isZero, isLeast, timesEighth, valueOf, wholeEighths, minusZero, passes, signed, byteOf}
+use Rattle.softmath.specs.Single.{zero32}
 use Rattle.eighths.specs.Calls.{some, bytesRefusals, valuesRefusals, valuesOf, bytesOf}
 use Rattle.eighths.specs.Laws.{Each, more, I8s, F32s, Accepted, BytesUndone, ValuesUndone, ByteUnrounded, ValueUnrounded}
 use Rattle.soft_bytes.proofs.Value.{same-test, Eighths, eighths-whole, product-exact, sign, count, passing, swap, to-whole}
 use Rattle.soft_bytes.proofs.Byte.{turned}
-use Rattle.eighths.proofs.Lists.{neither}
 use Rattle.eighths.proofs.Judged.{tests, written}
 
 -- ---- a float is fixed by its sign and its eighths
@@ -164,7 +165,7 @@ module _ {A B : Type 0} (Such : A → Type 0) (test : A → Bool) (f : A → B) 
   unfolding some
   all-undone [] all e = (refl, refl)
   all-undone (x ∷ xs) (more such all) e =
-      let split = neither (test x) (some test xs) e in
+      let split = or-is-false (test x) (some test xs) .0 e in
       let rest = all-undone xs all (split .1) in
       (rw (good x such (split .0)) (rest .0), rw (back x such (split .0)) (ap (λ (ys : List A). x ∷ ys) (rest .1)))
 

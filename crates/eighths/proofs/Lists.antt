@@ -1,22 +1,19 @@
--- The loops' lists: a test of each entry, and a value written for each, by splitting the list at the loop's index. Assumes nothing.
-use mathlib.Core.Path.{_≡_, refl, sym, ap, _∙_}
-use mathlib.Core.Bool.{Bool, true, false, not, _||_, true≢false}
-use mathlib.Core.List.{List, [], _∷_, map, map-append}
+-- A test of each entry of a list: a turn of its loop, its ends, and what holds where it fails. By splitting the list at the loop's index. Assumes nothing.
+use mathlib.Core.Path.{_≡_}
+use mathlib.Core.Bool.{Bool, true, false, not}
+use mathlib.Mathlib.Data.Bool.Basic.{or-eq-false-eq-eq-false-and-eq-false as or-is-false}
+use mathlib.Core.List.{List, [], _∷_}
 use Prim.Native.Nat.{ℕ, zero, suc, _+_, _≤_, _<_}
 use native.Mathlib.Omega.{arith}
 use native.Mathlib.Numerals.{add-one}
 use lib.Ieee.{Float, nan}
-use lib.ListN.{length, take, drop, getD, set, drop-of-length-le}
-use lib.Seq.{take-suc, take-suc-set, drop-cons, take-all}
+use lib.ListN.{length, drop, getD, drop-of-length-le}
+use lib.Seq.{drop-cons}
 use borrow.Author.Tests.{not-false}
 use Rattle.soft_bytes.specs.Values.{passes}
 use Rattle.eighths.specs.Calls.{some}
 
 -- ---- a test of each entry
-
-pub neither : (a b : Bool) → (a || b) ≡ false → (a ≡ false) × (b ≡ false)
-neither false b e = (refl, e)
-neither true b e = absurd (true≢false e)
 
 module _ {A : Type 0} (test : A → Bool) (d : A) where
   pub some-more : (l : List A) (r : Bool) (i : ℕ) → i < length l → test (getD l i d) ≡ false → some test (drop i l) ≡ r → some test (drop (i + 1) l) ≡ r
@@ -35,20 +32,8 @@ module _ {A : Type 0} (test : A → Bool) (d : A) where
   pub none-at : (l : List A) (i : ℕ) → some test l ≡ false → i < length l → test (getD l i d) ≡ false
   unfolding some
   none-at [] i e h = absurd (omega arith)
-  none-at (x ∷ xs) zero e h = neither (test x) (some test xs) e .0
-  none-at (x ∷ xs) (suc i) e h = none-at xs i (neither (test x) (some test xs) e .1) (omega arith)
-
--- ---- a value written for each entry
-
-module _ {A B : Type 0} (f : A → B) (d : A) where
-  pub fill-more : (l : List A) (out : List B) (i : ℕ) (v : B) → i < length l → i < length out → v ≡ f (getD l i d) → take i out ≡ map f (take i l)
-      → take (i + 1) (set out i v) ≡ map f (take (i + 1) l)
-  fill-more l out i v h k e so = rw (add-one, take-suc-set out i v k, take-suc l i d h, map-append, e, so) refl
-
-  pub fill-done : (l : List A) (out : List B) (i : ℕ) → length out ≤ i → length out ≡ length l → take i out ≡ map f (take i l) → out ≡ map f l
-  fill-done l out i h e so =
-      let short : length l ≤ i = omega arith in
-      sym (take-all i out h) ∙ so ∙ ap (map f) (take-all i l short)
+  none-at (x ∷ xs) zero e h = or-is-false (test x) (some test xs) .0 e .0
+  none-at (x ∷ xs) (suc i) e h = none-at xs i (or-is-false (test x) (some test xs) .0 e .1) (omega arith)
 
 -- ---- the values of a list of which none fails
 

@@ -10,7 +10,7 @@ use lib.ListN.{length, getD}
 use Rattle.columns.specs.Rows.{holds}
 use Rattle.construction.specs.Codes.{Code, n512r12, n576r23, n512r34}
 use Rattle.tanner.specs.Checks.{Word, Checks}
-use Rattle.tanner.specs.Flat.{Below}
+use Rattle.lists.specs.Below.{Below}
 use Rattle.tanner.proofs.Count.{AllBelow, none, more}
 use Rattle.tanner.proofs.Flat.{all-below}
 use Rattle.staircase.specs.Staircase.{taps, parityEntries, checkRow, checkRows, checksOf}

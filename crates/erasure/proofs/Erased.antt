@@ -10,7 +10,7 @@ use lib.ListN.{length, getD, take, replicate, length-append, length-replicate, g
 use lib.Seq.{getD-take, getD-append-add, length-take-le, ext-getD}
 use Rattle.construction.specs.Codes.{Code, blockLength}
 use Rattle.tanner.specs.Checks.{Word, count}
-use Rattle.tanner.specs.Flat.{Below}
+use Rattle.lists.specs.Below.{Below}
 use Rattle.staircase.specs.Staircase.{taps, parityEntries, checkRow, checksOf}
 use Rattle.staircase.specs.Codes as staircase
 use Rattle.staircase.proofs.Positions.{taps-below, row-at}

@@ -1,6 +1,6 @@
 -- The greatest common divisor and the lowest terms: Euclid's division keeps the common divisors, so what is left divides both and is divided by each of them.
 use mathlib.Core.Path.{_≡_, refl, sym, ap, _∙_}
-use Prim.Native.Nat.{ℕ, zero, suc, _+_, _*_, _/_, _%_, _≤_, _<_, _∣_}
+use Prim.Native.Nat.{ℕ, zero, suc, _*_, _/_, _%_, _≤_, _<_, _∣_}
 use native.Mathlib.Nat.{
   mod-lt,
   mul-comm,
@@ -8,6 +8,7 @@ use native.Mathlib.Nat.{
   one-mul,
   add-zero,
   div-add-mod,
+  div-mul-cancel,
   div-self,
   div-eq-of-lt,
   mod-eq-of-lt,
@@ -76,17 +77,14 @@ pub gcd-pos : (a b : ℕ) → 0 < b → 0 < gcd a b
 gcd-pos a b h = pos-of-dvd-of-pos (gcd-divides a b .1) h
 
 -- ---- the lowest terms of n over d, where d is not 0
-exact : (g n : ℕ) → g ∣ n → n / g * g ≡ n
-exact g n h = mul-comm (n / g) g ∙ sym (add-zero (g * (n / g))) ∙ ap (λ (r : ℕ). g * (n / g) + r) (sym (mod-eq-zero-of-dvd g h)) ∙ div-add-mod n g
-
 module _ (n d : ℕ) (some : 0 < d) where
   -- the same number
   pub same-value : lowest n d .over * d ≡ n * lowest n d .under
   unfolding lowest
   same-value =
       let g = gcd n d in
-      let en = exact g n (gcd-divides n d .0) in
-      let ed = exact g d (gcd-divides n d .1) in
+      let en = div-mul-cancel g (gcd-divides n d .0) in
+      let ed = div-mul-cancel g (gcd-divides n d .1) in
       ap (λ (x : ℕ). n / g * x) (sym ed) ∙ mul-left-comm (n / g) (d / g) g ∙ ap (λ (x : ℕ). d / g * x) en ∙ mul-comm (d / g) n
 
   -- nothing but 1 divides both
@@ -94,8 +92,8 @@ module _ (n d : ℕ) (some : 0 < d) where
   unfolding lowest
   no-common k p q =
       let g = gcd n d in
-      let en = exact g n (gcd-divides n d .0) in
-      let ed = exact g d (gcd-divides n d .1) in
+      let en = div-mul-cancel g (gcd-divides n d .0) in
+      let ed = div-mul-cancel g (gcd-divides n d .1) in
       let pn : k * g ∣ n = rw en at (mul-dvd-mul-right k p g) in
       let pd : k * g ∣ d = rw ed at (mul-dvd-mul-right k q g) in
       let all : k * g ∣ 1 * g = rw (one-mul g) (gcd-greatest (k * g) n d pn pd) in

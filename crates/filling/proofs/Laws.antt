@@ -12,8 +12,8 @@ use lib.Dec.{eqb}
 use lib.ListN.{length, getD, set, length-set, List·getD-eq-default}
 use lib.Seq.{getD-set-same, getD-set-other}
 use Rattle.tanner.specs.Checks.{Word, Checks, count}
-use Rattle.tanner.specs.Flat.{Below}
-use Rattle.tanner.proofs.Below.{below-at}
+use Rattle.lists.specs.Below.{Below}
+use Rattle.lists.proofs.Below.{below-at}
 use Rattle.filling.specs.Filling.{Setting, none, at, lowest, fillBy, filled, filledWord, filledPlaces}
 use Rattle.filling.specs.Promise.{named, NoneTwice, Agrees, Fills}
 use Rattle.filling.proofs.Named.{named-cons, named-none, named-fresh, named-other}

@@ -7,7 +7,8 @@ use native.Mathlib.Omega.{arith}
 use borrow.Author.Tests.{eq-eqb, ne-eqb, eqb-true}
 use lib.Dec.{eqb}
 use lib.ListN.{length}
-use Rattle.tanner.specs.Flat.{Below, places}
+use Rattle.tanner.specs.Flat.{places}
+use Rattle.lists.specs.Below.{Below}
 use Rattle.filling.specs.Promise.{named}
 
 -- from whatever place the entries are counted

@@ -4,7 +4,8 @@ use mathlib.Core.List.{List, []}
 use Prim.Native.Nat.{ℕ, _<_, _≤_}
 use lib.ListN.{length, getD}
 use Rattle.tanner.specs.Checks.{Word, Checks, count}
-use Rattle.tanner.specs.Flat.{Below, places}
+use Rattle.tanner.specs.Flat.{places}
+use Rattle.lists.specs.Below.{Below}
 use Rattle.filling.specs.Filling.{filledWord, filledPlaces}
 
 -- how often a position is named

@@ -3,6 +3,7 @@
 use mathlib.Core.Path.{_≡_, refl, sym}
 use mathlib.Core.Bool.{Bool, true, false, not, cond, _&&_, _||_}
 use mathlib.Core.List.{List, [], _∷_}
+use mathlib.Mathlib.Data.Bool.Basic.{and-elim-left, and-elim-right}
 use Prim.Native.Nat.{ℕ, zero, suc, _+_, _<_}
 use native.Mathlib.Nat.{add-zero, zero-add}
 use native.Mathlib.Omega.{arith}
@@ -12,7 +13,6 @@ use lib.Ieee.{Float, isNan, nan}
 use lib.ListN.{length, getD, take}
 use Rattle.tanner.specs.Checks.{Word, First, none, parity, count, firstUnsatisfied, FirstIs, counted, satisfied}
 use Rattle.tanner.proofs.First.{first-is, none-count, count-none}
-use Rattle.code174.proofs.Tests.{and-left, and-right}
 use Rattle.numbered.specs.Codes.{sizeK}
 use Rattle.clean.specs.Clean.{anyNan, payloadChecksum, carriedChecksum, checksumRight, frameClean}
 use Rattle.first_reason.specs.declared.Reason.{Reason}
@@ -123,6 +123,6 @@ module _ (code : ℕ) (values : List Float) (word : Word) where
       let zero = eqb (count (checksBy code) word) 0 in
       let free = not (anyNan values) in
       let sums = not (eqb code 3) || checksumRight bits in
-      let rest = and-right zero (free && sums) h in
-      let satisfies = count-none (checksBy code) word (eqb-true _ _ (and-left zero (free && sums) h)) in
-      rw (any-absent 0 values (not-true (anyNan values) (and-left free sums rest)), satisfies, and-right free sums rest)
+      let rest = and-elim-right zero (free && sums) h in
+      let satisfies = count-none (checksBy code) word (eqb-true _ _ (and-elim-left zero (free && sums) h)) in
+      rw (any-absent 0 values (not-true (anyNan values) (and-elim-left free sums rest)), satisfies, and-elim-right free sums rest)

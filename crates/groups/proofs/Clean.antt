@@ -2,12 +2,12 @@
 use mathlib.Core.Path.{_≡_, refl, sym, ap, _∙_}
 use mathlib.Core.Bool.{Bool, true, false}
 use mathlib.Core.List.{List, [], _∷_}
+use mathlib.Mathlib.Data.Bool.Basic.{and-elim-left, and-elim-right}
 use Prim.Native.Nat.{ℕ, zero, suc, _+_, _<_, _≤_}
 use native.Mathlib.Nat.{add-suc, suc-add, add-zero, zero-add}
 use native.Mathlib.Omega.{arith}
 use lib.ListN.{length, getD, take, drop, length-drop}
 use lib.Seq.{length-take-le, getD-take, getD-drop}
-use Rattle.code174.proofs.Tests.{and-left, and-right}
 use Rattle.grouping.specs.Grouping.{all}
 use Rattle.groups.specs.Groups.{cleanFrom}
 
@@ -27,8 +27,8 @@ module _ (clean : ℕ → Bool) where
 all-at : (l : List Bool) → all l ≡ true → (i : ℕ) → i < length l → getD l i false ≡ true
 unfolding all
 all-at [] e i h = absurd (omega arith)
-all-at (c ∷ l) e zero h = and-left c (all l) e
-all-at (c ∷ l) e (suc i) h = all-at l (and-right c (all l) e) i (omega arith)
+all-at (c ∷ l) e zero h = and-elim-left c (all l) e
+all-at (c ∷ l) e (suc i) h = all-at l (and-elim-right c (all l) e) i (omega arith)
 
 at-all : (l : List Bool) → ((i : ℕ) → i < length l → getD l i false ≡ true) → all l ≡ true
 unfolding all

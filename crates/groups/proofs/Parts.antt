@@ -6,8 +6,8 @@ use native.Mathlib.Nat.{suc-mul, zero-mul, add-zero}
 use native.Mathlib.Omega.{arith}
 use lib.ListN.{length, take, drop, length-take, length-drop}
 use lib.Seq.{take-add, drop-drop}
-use Rattle.tanner.specs.Flat.{Below}
-use Rattle.tanner.proofs.Below.{below-none, below-append}
+use Rattle.lists.specs.Below.{Below}
+use Rattle.lists.proofs.Below.{below-none, below-append}
 
 -- frame j's
 abbrev pub frameAt : ℕ → ℕ → List ℕ → List ℕ

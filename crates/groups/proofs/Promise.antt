@@ -11,7 +11,7 @@ use lib.ListN.{length, take, drop, replicate, length-drop}
 use lib.Seq.{length-take-le}
 use Rattle.refusal.specs.Outcome.{Outcome, Condition, judged, kept}
 use Rattle.refusal.proofs.Judged.{verdict, nothing, kept-accepted}
-use Rattle.tanner.specs.Flat.{Below}
+use Rattle.lists.specs.Below.{Below}
 use Rattle.batch.specs.Codes.{sizeK}
 use Rattle.batch.specs.Calls.{Lent, Batch, refusals, frames, written}
 use Rattle.batch.specs.Calls as batch

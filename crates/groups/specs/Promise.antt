@@ -7,7 +7,7 @@ use Prim.Native.Nat.{ℕ, _+_, _*_, _<_, _≤_}
 use lib.Ieee.{Float}
 use lib.ListN.{length, getD, take, drop, replicate}
 use Rattle.refusal.specs.Outcome.{Outcome, accepted}
-use Rattle.tanner.specs.Flat.{Below}
+use Rattle.lists.specs.Below.{Below}
 use Rattle.softmath.specs.declared.DecodeRule.{DecodeRule}
 use Rattle.rules.specs.Rules.{ruleOf}
 use Rattle.batch.specs.Codes.{sizeK}

@@ -1,108 +1,60 @@
--- The definitions yield each (P) case of document 01: the cases of the crates below, and (174,91)'s two decodes by computation. Assumes nothing.
-use mathlib.Core.Path.{_≡_, refl}
-use lib.Ieee.{neg, le, ofBits}
-use lib.ListN.{replicate}
-use Rattle.tanner.specs.Checks.{parity, count}
-use Rattle.softmath.specs.Functions.{decide}
-use Rattle.softmath.proofs.Cases.{min-sum-case}
-use Rattle.crc.proofs.Cases.{checksum-cases}
+-- The definitions yield each (P) case of document 01: by computation, and those of the staircase count by `Staircase.antt`. Assumes nothing.
+use mathlib.Core.Path.{refl}
+use mathlib.Core.List.{List, _++_}
+use Prim.Native.Nat.{ℕ}
+use lib.Ieee.{mul, neg, lt, le, ofBits}
+use Rattle.bits.specs.Bits.{bitsOf, bits, numberAfter, packed}
+use Rattle.checksum.specs.Register.{turn, fed, register, crc14}
+use Rattle.crc.specs.Block.{carried}
+use Rattle.tanner.specs.Checks.{parity, count, xorFrom, countBytes}
+use Rattle.softmath.specs.Functions.{magnitudeOf, decide}
+use Rattle.softmath.specs.CheckNode.{seen, minimaFrom, minimaOf, minAnswer, minAnswers, minSum, checkStep}
 use Rattle.code174.specs.Tables.{nm, numRows}
 use Rattle.code174.specs.Code174.{checks, rowsOfSeven}
-use Rattle.ldpc_encoding.proofs.Cases.{code-cases}
-use Rattle.known_cases.proofs.Staircase.{cases0, cases1, cases2}
+use Rattle.ldpc_encoding.specs.Tables.{generator}
+use Rattle.ldpc_encoding.specs.Encoding.{under, rowsOfTwelve, parityBits, encodeBits, codewordOf}
 use Rattle.one_round.specs.Round.{initialWord}
 use Rattle.rounds.specs.Rounds.{wordsFrom, roundWords, chosenFrom, chosen, chosenCount, chosenBits}
-use Rattle.softmath.specs.declared.DecodeRule.the-variants.{Ft8}
-use Rattle.decoders.specs.Decodes.{ft8Decode}
-use Rattle.known_cases.specs.Cases.{minusZeros, nans, table, Yields}
+use Rattle.known_cases.specs.Cases.{Entry, checksums, extracts, encodings, counts, decodes, staircase, minSums, table, Yields, none, more}
+use Rattle.known_cases.proofs.Staircase.{Cases, cases0, cases1, cases2}
+
+checksums-yield : Yields checksums
+unfolding turn fed register crc14
+checksums-yield = more refl (more refl (more refl none))
+
+extracts-yield : Yields extracts
+unfolding bitsOf bits numberAfter carried
+extracts-yield = more refl (more refl none)
+
+encodings-yield : Yields encodings
+unfolding bitsOf bits numberAfter packed under rowsOfTwelve parityBits encodeBits codewordOf generator
+encodings-yield = more refl (more refl none)
+
+counts-yield : Yields counts
+unfolding xorFrom countBytes rowsOfSeven checks nm numRows
+counts-yield = more refl (more refl (more refl none))
 
 -- at limit 0 the initial word is chosen
-ones : chosenBits (ft8Decode Ft8 minusZeros) 0 174 ≡ replicate 174 1
-unfolding chosenBits chosen roundWords wordsFrom chosenFrom initialWord decide neg le ofBits count parity checks rowsOfSeven nm numRows
-ones = refl
+decodes-yield : Yields decodes
+unfolding chosenBits chosenCount chosen roundWords wordsFrom chosenFrom initialWord decide neg le ofBits count parity checks rowsOfSeven nm numRows
+decodes-yield = more refl (more refl (more refl (more refl none)))
 
-ones-count : chosenCount (ft8Decode Ft8 minusZeros) 0 ≡ 24
-unfolding chosenCount chosen roundWords wordsFrom chosenFrom initialWord decide neg le ofBits count parity checks rowsOfSeven nm numRows
-ones-count = refl
+min-sums-yield : Yields minSums
+unfolding checkStep minSum minimaOf minimaFrom seen minAnswer minAnswers magnitudeOf ofBits neg lt mul
+min-sums-yield = more refl none
 
-zeros : chosenBits (ft8Decode Ft8 nans) 0 174 ≡ replicate 174 0
-unfolding chosenBits chosen roundWords wordsFrom chosenFrom initialWord decide le ofBits count parity checks rowsOfSeven nm numRows
-zeros = refl
+staircase-yields : {code k m : ℕ} → Cases code k m → Yields (staircase code k m)
+staircase-yields c = more (c .lastBit) (more (c .bitK) (more (c .messageBit) (more (c .byteTwo) none)))
 
-zeros-count : chosenCount (ft8Decode Ft8 nans) 0 ≡ 0
-unfolding chosenCount chosen roundWords wordsFrom chosenFrom initialWord decide le ofBits count parity checks rowsOfSeven nm numRows
-zeros-count = refl
+-- ---- the table
+
+infixl 10 _and_
+_and_ : {es fs : List Entry} → Yields es → Yields fs → Yields (es ++ fs)
+none and q = q
+more e p and q = more e (p and q)
 
 pub p-cases : Yields table
 p-cases =
-    let c = checksum-cases in
-    let l = code-cases in (
-      c .0,
-      (
-        c .1 .0,
-        (
-          c .1 .1 .0,
-          (
-            c .1 .1 .1 .0,
-            (
-              c .1 .1 .1 .1 .0,
-              (
-                l .0,
-                (
-                  l .1 .0,
-                  (
-                    l .1 .1 .0,
-                    (
-                      l .1 .1 .1 .0,
-                      (
-                        l .1 .1 .1 .1 .0,
-                        (
-                          ones,
-                          (
-                            ones-count,
-                            (
-                              zeros,
-                              (
-                                zeros-count,
-                                (
-                                  min-sum-case,
-                                  (
-                                    cases0 .lastBit,
-                                    (
-                                      cases0 .bitK,
-                                      (
-                                        cases0 .messageBit,
-                                        (
-                                          cases0 .byteTwo,
-                                          (
-                                            cases1 .lastBit,
-                                            (
-                                              cases1 .bitK,
-                                              (
-                                                cases1 .messageBit,
-                                                (
-                                                  cases1 .byteTwo,
-                                                  (cases2 .lastBit, (cases2 .bitK, (cases2 .messageBit, (cases2 .byteTwo, tt)))),
-                                                ),
-                                              ),
-                                            ),
-                                          ),
-                                        ),
-                                      ),
-                                    ),
-                                  ),
-                                ),
-                              ),
-                            ),
-                          ),
-                        ),
-                      ),
-                    ),
-                  ),
-                ),
-              ),
-            ),
-          ),
-        ),
-      ),
-    )
+    checksums-yield and extracts-yield and encodings-yield and counts-yield and decodes-yield
+    and staircase-yields cases0 and staircase-yields cases1 and staircase-yields cases2
+    and min-sums-yield

@@ -6,7 +6,7 @@ use mathlib.Core.List.{List}
 use Prim.Native.Nat.{ℕ}
 use Rattle.tanner.specs.Checks.{Word, count, countBytes, syndromeOfBytes}
 use Rattle.tanner.specs.Masked.{syndromeMasked}
-use Rattle.tanner.specs.Flat.{Below}
+use Rattle.lists.specs.Below.{Below}
 use Rattle.tanner.proofs.Count.{bits-count}
 use Rattle.tanner.proofs.First.{byte-syndrome}
 use Rattle.code174.specs.Code174.{checks}

@@ -1,22 +1,21 @@
 -- Counting by the rows of `NM`: a turn of each loop, a table of rows in parts, and that over a word with a byte 0 before it the rows count what the checks
 -- count
 -- over the word. The last by one computed test: the rows' positions, counted from 0, are the checks'. Assumes nothing else.
-use mathlib.Core.Path.{_≡_, refl, sym, ap, _∙_}
+use mathlib.Core.Path.{_≡_, refl, ap, _∙_}
 use mathlib.Core.Bool.{Bool, true, false, cond}
 use mathlib.Core.List.{List, [], _∷_, map}
 use Prim.Native.Nat.{ℕ, zero, suc, _+_, _-_, _*_, _<_, _≤_}
 use native.Mathlib.Nat.{add-sub-cancel-left}
-use native.Mathlib.Numerals.{add-one}
 use native.Mathlib.Omega.{arith}
 use borrow.Author.Tests.{ltb-true}
 use lib.Bits.{bitXor, bitAnd, xor-zero-r}
 use lib.Dec.{eqb, ltb}
-use lib.ListN.{length, getD, take, drop, set}
-use lib.Seq.{take-take, drop-drop, take-suc, take-suc-set, take-all}
+use lib.ListN.{length, getD, take, drop}
+use lib.Seq.{take-take, drop-drop}
 use Rattle.tanner.specs.Checks.{Checks, xorFrom, nonzero, firstBy}
 use Rattle.tanner.specs.Masked.{countMasked, measured, firstMasked}
-use Rattle.tanner.specs.Flat.{Below}
-use Rattle.tanner.proofs.Steps.{part-below}
+use Rattle.lists.specs.Below.{Below}
+use Rattle.lists.proofs.Below.{below-part}
 use Rattle.code174.specs.Agreement.{each}
 use Rattle.code174.specs.Code174.{rowsOfSeven, checks}
 use Rattle.ldpc.specs.Rows.{Rows, sevens, fromOne}
@@ -24,9 +23,6 @@ use Rattle.code174.specs.Tables.{nm, numRows}
 use Rattle.code174.proofs.Tests.{each-at}
 
 -- ---- a turn
-
-pub row-fits : (rows c a n : ℕ) → c < rows → a ≡ c * 7 → n ≡ rows * 7 → a + 7 ≤ n
-row-fits rows c a n h e s = omega arith
 
 pub rows-more : (rows c a : ℕ) (t : List ℕ) → c < rows → sevens (rows - c) (drop a t) ≡ take (a + 7 - a) (drop a t) ∷ sevens (rows - (c + 1)) (drop (a + 7) t)
 unfolding sevens
@@ -148,20 +144,8 @@ nm-low k h = ltb-true _ _ (each-at 581 (λ (i : ℕ). ltb (getD nm i 0) 175) ref
 pub nm-part : (a k n : ℕ) → length (take (k * 7) (drop a nm)) ≡ k * 7 → k < 65536 → n ≡ 175 → Rows k (take (k * 7) (drop a nm)) n
 nm-part a k n size few e =
     let s : a + k * 7 - a ≡ k * 7 = omega arith in
-    record { size = size; low = rw (e, ← s) (part-below 175 nm a (a + k * 7) nm-low); few = few }
+    record { size = size; low = rw (e, ← s) (below-part 175 nm a (a + k * 7) nm-low); few = few }
 
 pub nm-whole : (n : ℕ) → n ≡ 175 → Rows 83 nm n
 unfolding nm
 nm-whole n e = record { size = refl; low = rw e nm-low; few = omega arith }
-
--- ---- the copy of a word behind a byte 0
-
-pub pad-more : (h out : List ℕ) (i v : ℕ) → i < length h → length out ≡ suc (length h) → v ≡ getD h i 0 → take (i + 1) out ≡ take (i + 1) (0 ∷ h)
-    → take (i + 1 + 1) (set out (i + 1) v) ≡ take (i + 1 + 1) (0 ∷ h)
-pad-more h out i v l n e t =
-    let k : i + 1 < length out = omega arith in
-    let own : v ≡ getD (0 ∷ h) (i + 1) 0 = e ∙ rw add-one refl in
-    rw (add-one (i + 1), take-suc-set out (i + 1) v k, take-suc (0 ∷ h) (i + 1) 0 (omega arith), t, own)
-
-pub pad-done : (h out : List ℕ) (i : ℕ) → length h ≤ i → length out ≡ suc (length h) → take (i + 1) out ≡ take (i + 1) (0 ∷ h) → out ≡ 0 ∷ h
-pad-done h out i l n t = sym (take-all (i + 1) out (omega arith)) ∙ t ∙ take-all (i + 1) (0 ∷ h) (omega arith)

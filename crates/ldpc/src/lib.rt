@@ -11,7 +11,7 @@ ghost use Rattle.refusal.specs.Outcome.{judged};
 ghost use Rattle.tanner.specs.Checks.{xorFrom, syndromeOfBytes};
 ghost use Rattle.tanner.specs.Masked.{countMasked, firstMasked, syndromeMasked};
 ghost use Rattle.tanner.specs.Found.{firstOf, syndromeOf, countingOf};
-ghost use Rattle.tanner.specs.Flat.{Below};
+ghost use Rattle.lists.specs.Below.{Below};
 ghost use Rattle.ldpc.specs.Calls.{countRefusals};
 ghost use Rattle.code174.specs.Code174.{checks};
 ghost use Rattle.ldpc.specs.Rows.{Rows, sevens};

@@ -9,9 +9,9 @@ use lib.ListN.{length, getD, take, drop, set, length-append, length-drop, take-a
 use lib.Seq.{take-at, set-at, getD-at, getD-append-add, length-take-le}
 use Rattle.tanner.specs.Checks.{Word, parity, count, lowBits}
 use Rattle.tanner.specs.Masked.{countMasked}
-use Rattle.tanner.specs.Flat.{Below}
+use Rattle.lists.specs.Below.{Below}
 use Rattle.tanner.proofs.Count.{low-length, parity-bit, parity-front, low-count, bits-low}
-use Rattle.tanner.proofs.Below.{below-none, below-cons, below-first, below-rest, below-append, below-left, below-right}
+use Rattle.lists.proofs.Below.{below-none, below-cons, below-first, below-rest, below-append, below-left, below-right}
 use Rattle.staircase.specs.Staircase.{taps, parityEntries, checkRow, checkRows, checksOf, parityBits, encoded}
 pub use Rattle.staircase.proofs.Positions.{checks-length}
 use Rattle.staircase.proofs.Positions.{taps-below}

@@ -1,11 +1,9 @@
 -- The calls over a code's table answer what the definitions say of the code. By the laws of tanner and of the encoding.
 use mathlib.Core.Path.{_≡_, refl, sym, ap, _∙_}
 use mathlib.Core.List.{List, [], _∷_, _++_}
-use Prim.Native.Nat.{ℕ, zero, suc, _+_, _%_, _≤_, _<_}
-use native.Mathlib.Numerals.{add-one}
+use Prim.Native.Nat.{ℕ, zero, suc, _%_, _<_}
 use native.Mathlib.Omega.{arith}
-use lib.ListN.{length, getD, set, take, drop, length-drop}
-use lib.Seq.{set-at, drop-cons, take-suc, append-snoc, length-take-le}
+use lib.ListN.{length, take, drop, length-drop}
 use Rattle.refusal.specs.Outcome.{Outcome, judged}
 use Rattle.construction.specs.Codes.{Code, blockLength}
 use Rattle.tanner.specs.Checks.{lowBits, Syndrome}
@@ -20,20 +18,6 @@ use Rattle.staircase.proofs.Positions.{checks-low, checks-many}
 use Rattle.stair_parity.specs.Filling.{filled}
 use Rattle.ldpc_codes.specs.Calls.{codewordOf, shortWord, syndromeOf}
 use Rattle.ldpc_codes.proofs.Codewords.{fill-all}
-
--- ---- the copy of the message
-pub copied-more : (s u v : List ℕ) (i : ℕ) → i < length s → length s ≤ length u → v ≡ take i s ++ drop i u
-    → set v i (getD s i 0) ≡ take (i + 1) s ++ drop (i + 1) u
-copied-more s u v i h fits e =
-    rw (
-      e,
-      drop-cons u i 0 (omega arith),
-      set-at (take i s) (getD u i 0) (drop (suc i) u) (getD s i 0) i (length-take-le i s (omega arith)),
-      add-one,
-      take-suc
-          s i 0 h,
-    )
-    (sym (append-snoc (take i s) (getD s i 0) (drop (suc i) u)))
 
 -- ---- a code whose checks lie in the tables
 low-take : (n : ℕ) (bytes : List ℕ) → lowBits (take n bytes) ≡ take n (lowBits bytes)

@@ -1,4 +1,3 @@
 pub mod Parity
 pub mod Gather
 pub mod Codeword
-pub mod Cases

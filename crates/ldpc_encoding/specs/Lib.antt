@@ -2,4 +2,3 @@ pub mod Tables
 pub mod Encoding
 pub mod Calls
 pub mod Bytes
-pub mod Cases

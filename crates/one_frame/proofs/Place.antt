@@ -1,11 +1,11 @@
 -- One frame: its answer by its code, and its places: by cases of the code's number, and by the laws of parts of lists. Assumes nothing.
 use mathlib.Core.Path.{_≡_, refl}
 use mathlib.Core.List.{List, _++_}
-use Prim.Native.Nat.{ℕ, zero, suc, _+_, _*_, _-_, _≤_}
+use Prim.Native.Nat.{ℕ, zero, suc, _+_, _*_, _-_}
 use native.Mathlib.Omega.{arith}
 use lib.Ieee.{Float}
-use lib.ListN.{length, take, drop, length-drop}
-use lib.Seq.{drop-drop, length-take-le}
+use lib.ListN.{take, drop}
+use lib.Seq.{drop-drop}
 use Rattle.softmath.specs.declared.DecodeRule.{DecodeRule}
 use Rattle.rounds.specs.Told.{Chose}
 use Rattle.rounds.specs.declared.Decoded.{Decoded}
@@ -30,11 +30,6 @@ pub frame-chosen : (code rule : ℕ) (scale : Float) (limit : ℕ) (llr : List F
 frame-chosen code rule scale limit llr k found bits r e c = rw (decode-is code r llr, e) at c
 
 -- ---- the places of frame j
-
-pub part-size : {A : Type 0} (l : List A) (at k : ℕ) → at + k ≤ length l → length (take (at + k - at) (drop at l)) ≡ k
-part-size l at k h =
-    let e : at + k - at ≡ k = omega arith in
-    rw e (length-take-le k (drop at l) (simp length-drop (omega arith)))
 
 -- the part of k places from j times k on, as the loan of it comes back
 pub part-placed : {A : Type 0} (l : List A) (j : ℕ) {k size : ℕ} {part own : List A} → k ≡ size → part ≡ own

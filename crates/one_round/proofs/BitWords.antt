@@ -10,7 +10,7 @@ use Rattle.softmath.specs.Functions.{decide}
 use Rattle.softmath.specs.Single.{zero32}
 use Rattle.tanner.specs.Checks.{Checks, Word, count, Syndrome, syndrome}
 use Rattle.tanner.specs.Masked.{countMasked, syndromeMasked}
-use Rattle.tanner.specs.Flat.{Below}
+use Rattle.lists.specs.Below.{Below}
 use Rattle.tanner.proofs.Count.{bits-low}
 use Rattle.tanner.proofs.First.{low-syndrome}
 use Rattle.one_round.specs.Round.{Decode, decidedFrom, decided, initialWord}

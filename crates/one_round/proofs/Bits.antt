@@ -13,14 +13,15 @@ use lib.Dec.{eqb}
 use lib.Ieee.{Float, nan}
 use lib.ListN.{length, getD, take, length-set, length-map}
 use lib.Seq.{getD-set-same, getD-set-other, ext-getD, append-snoc}
+use Rattle.lists.proofs.Parts.{map-at}
 use Rattle.softmath.specs.Functions.{decide}
-use Rattle.softmath.specs.VariableNode.{decisionSum, newMessages, answersAt, EdgesWithin, Distinct, none, more, putAt}
+use Rattle.softmath.specs.VariableNode.{decisionSum, newMessages, answersAt, Distinct, none, more, putAt}
 use Rattle.softmath.proofs.Messages.{put-other, put-same, put-length, answers-length, messages-length}
-use Rattle.tanner.specs.Flat.{joined, places, Below}
+use Rattle.tanner.specs.Flat.{joined, places}
+use Rattle.lists.specs.Below.{Below}
 use Rattle.tanner.proofs.Places.{places-stand, rank-inside, rank-place}
 use Rattle.variable_node.specs.Passes.{Pass, passOf, bitDone, turns}
 use Rattle.one_round.specs.Round.{Decode, channel, heard, decidedFrom, decided, sentFrom, sent}
-use Rattle.one_round.proofs.First.{place-at}
 
 -- ---- a position's edges
 
@@ -65,7 +66,7 @@ distinct-placed place n apart low none = none
 distinct-placed place n apart low (more {e = e} {es = es} a d) =
     more {es = map place es}
     (λ k l q. let o : k < length es = omega (arith, l, length-map es place) in
-    a k o (apart (getD es k 0) e (low (suc k) (omega (arith, o))) (low 0 (omega arith)) (sym (place-at place es k o) ∙ q)))
+    a k o (apart (getD es k 0) e (low (suc k) (omega (arith, o))) (low 0 (omega arith)) (sym (map-at place es k 0 0 o) ∙ q)))
     (distinct-placed place n apart (λ k l. low (suc k) (omega arith)) d)
 
 -- ---- the definition, position by position and edge by edge
@@ -128,7 +129,7 @@ module _ (d : Decode) (ans w₀ : List Float) (word₀ : List ℕ) (place : ℕ 
     many = length-map own place
 
     placed : (k : ℕ) → k < length own → getD edges k 0 ≡ place (getD own k 0)
-    placed k l = place-at place own k l
+    placed k l = map-at place own k 0 0 l
 
     hears : answersAt (s .work) edges ≡ heard d ans b
     unfolding heard
@@ -145,8 +146,8 @@ module _ (d : Decode) (ans w₀ : List Float) (word₀ : List ℕ) (place : ℕ 
     unfolding bitDone
     work-is = ap (λ (l : List Float). putAt edges (newMessages (d .kind) (channel d b) l) (s .work)) hears
 
-    within : EdgesWithin edges (length (s .work))
-    unfolding EdgesWithin
+    within : Below (length (s .work)) edges
+    unfolding Below
     within k l =
         let o : k < length own = omega (arith, many) in
         omega (arith, placed k o, inside (getD own k 0) (edge-low flat b k o), a .size)

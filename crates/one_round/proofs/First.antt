@@ -3,15 +3,17 @@
 use mathlib.Core.Path.{_≡_, refl, sym, ap, _∙_}
 use mathlib.Core.Bool.{Bool, true, false}
 use mathlib.Core.Logic.{_≢_}
-use mathlib.Core.List.{List, [], _∷_, map}
+use mathlib.Core.List.{List, map}
 use Prim.Native.Nat.{ℕ, zero, suc, _+_, _*_, _<_, _≤_}
 use native.Mathlib.Omega.{arith}
 use borrow.Author.Tests.{eqb-true, eqb-false}
 use lib.Dec.{eqb}
 use lib.Ieee.{Float, nan}
 use lib.ListN.{length, getD, take, length-map}
+use Rattle.lists.proofs.Parts.{map-at}
 use Rattle.tanner.specs.Checks.{Checks}
-use Rattle.tanner.specs.Flat.{Below, joined, places}
+use Rattle.tanner.specs.Flat.{joined, places}
+use Rattle.lists.specs.Below.{Below}
 use Rattle.tanner.proofs.Places.{places-stand, rank-inside, rank-place}
 use Rattle.slots.specs.Layout.{row, Slotted, slotPlace, slotEdges, padPlaces, scattered}
 use Rattle.slots.proofs.Edges.{slot-injective, slot-inside, entry-below, pad-apart}
@@ -23,17 +25,7 @@ use Rattle.one_round.specs.Held.{Holds}
 use Rattle.one_round.proofs.Held.{held-at, held-of}
 use Rattle.one_round.proofs.Answers.{Padded}
 
-pub place-at : (f : ℕ → ℕ) (es : List ℕ) (k : ℕ) → k < length es → getD (map f es) k 0 ≡ f (getD es k 0)
-place-at f [] k h = absurd (omega arith)
-place-at f (e ∷ es) zero h = refl
-place-at f (e ∷ es) (suc k) h = place-at f es k (omega arith)
-
 -- ---- the first messages
-
-message-at : (f : ℕ → Float) (es : List ℕ) (k : ℕ) → k < length es → getD (map f es) k nan ≡ f (getD es k 0)
-message-at f [] k h = absurd (omega arith)
-message-at f (e ∷ es) zero h = refl
-message-at f (e ∷ es) (suc k) h = message-at f es k (omega arith)
 
 module _ (dec : Decode) (m d : ℕ) (s : Slotted (dec .checks) m d) (w : List Float) (room : d * m ≤ length w) where
   abbrev flat : List ℕ
@@ -53,7 +45,7 @@ module _ (dec : Decode) (m d : ℕ) (s : Slotted (dec .checks) m d) (w : List Fl
     own = slotEdges (dec .checks) m b
 
     own-place : (k : ℕ) → k < length own → getD own k 0 ≡ place (getD (places b 0 flat) k 0)
-    own-place k h = place-at (slotPlace (dec .checks) m) (places b 0 flat) k (omega (arith, length-map (places b 0 flat) (slotPlace (dec .checks) m)))
+    own-place k h = map-at (slotPlace (dec .checks) m) (places b 0 flat) k 0 0 (omega (arith, length-map (places b 0 flat) (slotPlace (dec .checks) m)))
 
     own-low : (k : ℕ) → k < length own → getD (places b 0 flat) k 0 < length flat
     own-low k h =
@@ -116,7 +108,7 @@ module _ (dec : Decode) (m d : ℕ) (s : Slotted (dec .checks) m d) (w : List Fl
     first-holds =
         let a = first-turns n (omega arith) in
         held-of (dec .checks) m d s (turns step n w) (map (channel dec) flat) (omega (arith, a .wide)) (length-map flat (channel dec))
-        (λ e l. a .new e l (low e l) ∙ sym (message-at (channel dec) flat e l))
+        (λ e l. a .new e l (low e l) ∙ sym (map-at (channel dec) flat e 0 nan l))
 
 -- ---- the pads
 

@@ -9,7 +9,8 @@ use Rattle.softmath.specs.CheckNode.{checkStep}
 use Rattle.softmath.specs.declared.DecodeRule.{DecodeRule}
 use Rattle.tanner.specs.Checks.{Word}
 use Rattle.tanner.specs.Masked.{countMasked}
-use Rattle.tanner.specs.Flat.{Below, joined}
+use Rattle.tanner.specs.Flat.{joined}
+use Rattle.lists.specs.Below.{Below}
 use Rattle.slots.specs.Layout.{Slotted, slotPlace, padPlaces, scattered}
 use Rattle.slots.proofs.Edges.{slot-injective, slot-inside}
 use Rattle.construction.specs.Codes.{n512r12, n576r23, n512r34}

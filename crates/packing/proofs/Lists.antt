@@ -1,12 +1,12 @@
--- The loops' lists: one more byte packed, one more bit taken out. By splitting the list at the loop's index. Assumes nothing.
+-- One more byte packed, and the last: by splitting the list at the loop's index. Assumes nothing.
 use mathlib.Core.Path.{_≡_, refl, sym, ap, _∙_}
 use mathlib.Core.List.{List, [], _∷_, _++_}
 use Prim.Native.Nat.{ℕ, zero, suc, _+_, _*_, _≤_, _<_}
 use native.Mathlib.Omega.{arith}
 use native.Mathlib.Numerals.{add-one}
 use native.Mathlib.Nat.{zero-add}
-use lib.ListN.{length, take, getD, set}
-use lib.Seq.{take-suc, take-suc-set, take-all}
+use lib.ListN.{length, take, set}
+use lib.Seq.{take-suc-set, take-all}
 use Rattle.text.specs.Text.{byteAt}
 use Rattle.bits.specs.Bits.{bytesFor}
 use Rattle.packing.specs.Packing.{bytesFrom, packedWord}
@@ -26,7 +26,3 @@ pub pack-done : (word bytes : List ℕ) (i : ℕ) → length bytes ≤ i → i �
     → take i bytes ≡ bytesFrom word 0 i → bytes ≡ packedWord word
 unfolding packedWord
 pack-done word bytes i h k e so = let end : i ≡ bytesFor (length word) = omega arith in sym (take-all i bytes h) ∙ so ∙ ap (bytesFrom word 0) end
-
-pub unpack-more : (bits word : List ℕ) (i b : ℕ) → i < length word → i < length bits → b ≡ getD bits i 0 → take i word ≡ take i bits
-    → take (i + 1) (set word i b) ≡ take (i + 1) bits
-unpack-more bits word i b h k e so = rw (add-one, take-suc-set word i b h, take-suc bits i 0 k, e, so) refl

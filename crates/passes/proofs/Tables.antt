@@ -6,7 +6,7 @@ use Prim.Native.Nat.{ℕ, zero, suc, _+_, _*_, _<_}
 use native.Mathlib.Omega.{arith}
 use Rattle.construction.specs.Codes.{Code, n512r12, n576r23, n512r34}
 use Rattle.tanner.specs.Checks.{Checks}
-use Rattle.tanner.specs.Flat.{Below}
+use Rattle.lists.specs.Below.{Below}
 use Rattle.slots.specs.Layout.{Slotted, slotEdges, padPlaces, threeAt}
 use Rattle.staircase.specs.Codes.{checks}
 use Rattle.staircase.specs.Shape.{stairs}

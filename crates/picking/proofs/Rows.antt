@@ -7,7 +7,7 @@ use Prim.Native.Nat.{ℕ, zero, suc, _+_, _-_, _≤_, _<_}
 use native.Mathlib.Omega.{arith}
 use lib.Dec.{leb, ltb}
 use Rattle.columns.specs.Rows.{holds, insert, sorted}
-use Rattle.columns.specs.Tables.{AllBelow}
+use Rattle.lists.specs.Below.{Below}
 use Rattle.picking.specs.Picks.{Found, row, nothing, upFrom, onceRound, without, leastOf, firstLeast, search, firstOutside, settled}
 
 -- one of two
@@ -76,14 +76,14 @@ module _ (P : ℕ → Type 0) where
         rw (← same) (least-has r rs (e .0) (e .1))
 
 -- ---- rows below m
-pub each-all : (m : ℕ) (l : List ℕ) → Each (λ r. r < m) l → AllBelow m l
-unfolding AllBelow
+pub each-all : (m : ℕ) (l : List ℕ) → Each (λ r. r < m) l → Below m l
+unfolding Below
 each-all m [] e i h = absurd (omega arith)
 each-all m (r ∷ rs) e zero h = e .0
 each-all m (r ∷ rs) e (suc i) h = each-all m rs (e .1) i (omega arith)
 
-pub all-each : (m : ℕ) (l : List ℕ) → AllBelow m l → Each (λ r. r < m) l
-unfolding AllBelow
+pub all-each : (m : ℕ) (l : List ℕ) → Below m l → Each (λ r. r < m) l
+unfolding Below
 all-each m [] a = tt
 all-each m (r ∷ rs) a = (a 0 (omega arith), all-each m rs (λ i h. a (suc i) (omega arith)))
 

@@ -10,7 +10,7 @@ use lib.Dec.{ltb, eqb}
 use lib.ListN.{getD}
 use Rattle.columns.specs.Tables.{flagAt}
 use Rattle.picking.specs.Picks.{Found, row, nothing, upFrom, onceRound, without, leastOf, firstLeast, search}
-use Rattle.picking.specs.Searches.{metRow, metRows, Unbeaten, Below, loadAt}
+use Rattle.picking.specs.Searches.{metRow, metRows, Unbeaten, FoundBelow, loadAt}
 
 module _ (L : ℕ → ℕ) (S : ℕ → Bool) where
   pub met-append : (xs ys : List ℕ) (f : Found) → metRows L S (xs ++ ys) f ≡ metRows L S ys (metRows L S xs f)
@@ -75,8 +75,8 @@ up-none r to h =
     rw e
 
 -- ---- one row met
-pub below-row : {m q : ℕ} {f : Found} → f ≡ row q → Below m f → q < m
-unfolding Below
+pub below-row : {m q : ℕ} {f : Found} → f ≡ row q → FoundBelow m f → q < m
+unfolding FoundBelow
 below-row {m} e b = rw e at b
 
 flag-set : (x : ℕ) → (x ≡ 0 → ⊥) → not (eqb x 0) ≡ true

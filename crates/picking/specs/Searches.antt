@@ -34,9 +34,9 @@ Unbeaten ls (row r) = getD ls r 0 ≡ 0
 Unbeaten ls nothing = ⊥
 
 -- what is found lies below m
-unfoldable pub Below : ℕ → Found → Type 0
-Below m (row r) = r < m
-Below m nothing = Unit
+unfoldable pub FoundBelow : ℕ → Found → Type 0
+FoundBelow m (row r) = r < m
+FoundBelow m nothing = Unit
 
 unfoldable pub loadAt : List ℕ → ℕ → ℕ
 loadAt ls r = getD ls r 0

@@ -5,7 +5,7 @@ ghost use Prim.Native.Nat.{_-_, _%_, _≤_, _<_};
 ghost use lib.ListN.{length};
 ghost use Rattle.columns.specs.Tables.{flagAt};
 ghost use Rattle.picking.specs.Picks.{upFrom, onceRound, search, firstOutside, settled};
-ghost use Rattle.picking.specs.Searches.{foundOf, metRow, metRows, Unbeaten, Below, loadAt, choiceOf};
+ghost use Rattle.picking.specs.Searches.{foundOf, metRow, metRows, Unbeaten, FoundBelow, loadAt, choiceOf};
 
 // What a search yields.
 pub enum Pick {
@@ -17,9 +17,9 @@ pub enum Pick {
 fn better(loads: &[u16], marks: &[u8], found: Pick, r: usize) -> Pick
     requires { ⌜ r < length (now loads) ⌝ }
     requires { ⌜ length (now marks) ≡ length (now loads) ⌝ }
-    requires { ⌜ Below (length (now loads)) (foundOf found) ⌝ }
+    requires { ⌜ FoundBelow (length (now loads)) (foundOf found) ⌝ }
     ensures { λ p. ⌜ foundOf p ≡ metRow (loadAt (now (loads .entry))) (flagAt (now (marks .entry)) r) r (foundOf found) ⌝ }
-    ensures { λ p. ⌜ Below (length (now (loads .entry))) (foundOf p) ⌝ }
+    ensures { λ p. ⌜ FoundBelow (length (now (loads .entry))) (foundOf p) ⌝ }
 {
     if marks[r] != 0 {
         return found;
@@ -35,7 +35,7 @@ fn better(loads: &[u16], marks: &[u8], found: Pick, r: usize) -> Pick
 
 // No row is less loaded than an unloaded one.
 fn unbeaten(loads: &[u16], found: Pick) -> bool
-    requires { ⌜ Below (length (now loads)) (foundOf found) ⌝ }
+    requires { ⌜ FoundBelow (length (now loads)) (foundOf found) ⌝ }
     ensures { λ b. ⌜ (b ≡ true → Unbeaten (now (loads .entry)) (foundOf found)) ⌝ }
 {
     let Pick::Row(q) = found else {
@@ -48,9 +48,9 @@ fn unbeaten(loads: &[u16], found: Pick) -> bool
 fn search_part(loads: &[u16], marks: &[u8], from: usize, to: usize, before: Pick) -> Pick
     requires { ⌜ to ≤ length (now loads) ⌝ }
     requires { ⌜ length (now marks) ≡ length (now loads) ⌝ }
-    requires { ⌜ Below (length (now loads)) (foundOf before) ⌝ }
+    requires { ⌜ FoundBelow (length (now loads)) (foundOf before) ⌝ }
     ensures { λ p. ⌜ foundOf p ≡ metRows (loadAt (now (loads .entry))) (flagAt (now (marks .entry))) (upFrom from (to - from)) (foundOf before) ⌝ }
-    ensures { λ p. ⌜ Below (length (now (loads .entry))) (foundOf p) ⌝ }
+    ensures { λ p. ⌜ FoundBelow (length (now (loads .entry))) (foundOf p) ⌝ }
 {
     let mut found = before;
     let mut r = from;
@@ -69,7 +69,7 @@ fn search(loads: &[u16], marks: &[u8], start: usize) -> Pick
     requires { ⌜ length (now marks) ≡ length (now loads) ⌝ }
     requires { ⌜ start < length (now loads) ⌝ }
     ensures { λ p. ⌜ foundOf p ≡ search (length (now (loads .entry))) (loadAt (now (loads .entry))) (flagAt (now (marks .entry))) start ⌝ }
-    ensures { λ p. ⌜ Below (length (now (loads .entry))) (foundOf p) ⌝ }
+    ensures { λ p. ⌜ FoundBelow (length (now (loads .entry))) (foundOf p) ⌝ }
 {
     let first = search_part(loads, marks, start, loads.len(), Pick::Nothing);
     search_part(loads, marks, 0, start, first)

@@ -8,7 +8,8 @@ use lib.Dec.{leb}
 use lib.ListN.{length, take, drop, replicate, length-take, length-drop, length-replicate}
 use lib.Seq.{take-at, drop-at, take-add, length-take-le}
 use Rattle.columns.specs.Rows.{insert, sorted}
-use Rattle.columns.specs.Tables.{columnAt, columnsIn, AllBelow, Loaded, Room}
+use Rattle.columns.specs.Tables.{columnAt, columnsIn, Loaded, Room}
+use Rattle.lists.specs.Below.{Below}
 use Rattle.columns.proofs.Columns.{times-le}
 use Rattle.picking.proofs.Rows.{either, Each, each-append, each-left, each-right, each-sorted, each-all, all-each}
 use Rattle.placing.specs.OnePick.{load}
@@ -78,7 +79,7 @@ module _ {m n : ℕ} {rows loads marks : List ℕ} (b : Begun m n 3 rows loads m
   whole-each : Each (λ r. r < m) (take (3 * n) rows ++ v)
   whole-each = each-append (λ r. r < m) (take (3 * n) rows) v (each-left (λ r. r < m) (take (3 * n) rows) _ rows-each) v-each
 
-  pub v-below : AllBelow m v
+  pub v-below : Below m v
   v-below = each-all m v v-each
 
   pub room : Room (length v) loads

@@ -7,34 +7,34 @@ use Prim.Native.Nat.{ℕ, zero, suc, _+_, _-_, _*_, _%_, _≤_, _<_}
 use native.Mathlib.Nat.{mod-lt, zero-add, suc-add}
 use native.Mathlib.Numerals.{add-one}
 use native.Mathlib.Omega.{arith}
-use native.Mathlib.Decide.{decLt}
 use lib.Dec.{ltb, eqb}
-use lib.ListN.{length, getD, set, take, drop, length-set, length-take, length-drop}
-use lib.Seq.{take-set-le, take-take, getD-take, getD-set-same, getD-set-other, take-nil, drop-set-add, take-suc-set}
+use lib.ListN.{length, set, take, drop, length-set, length-drop}
+use lib.Seq.{take-set-le, take-take, take-nil, drop-set-add, take-suc-set}
 use Rattle.columns.specs.Rows.{together}
-use Rattle.columns.specs.Tables.{flagAt, columnAt, columnsIn, AllBelow, AllMarked}
-use Rattle.columns.proofs.Marks.{part-below}
+use Rattle.columns.specs.Tables.{flagAt, columnAt, columnsIn, AllMarked}
+use Rattle.lists.specs.Below.{Below}
+use Rattle.lists.proofs.Below.{below-within, below-set}
 use Rattle.picking.specs.Picks.{Found, row, nothing, Choice, upFrom, search, leastOf, settled}
-use Rattle.picking.specs.Searches.{metRow, metRows, Below, loadAt}
+use Rattle.picking.specs.Searches.{metRow, metRows, FoundBelow, loadAt}
 use Rattle.picking.proofs.Searches.{met-round}
 use Rattle.picking.proofs.Rows.{either}
 use Rattle.placing.specs.OnePick.{pick, skipped, load}
 use Rattle.placing.specs.Tables.{Flags, Loads, Ready, Begun, Placed}
 
 module _ (m : ℕ) (L L′ : ℕ → ℕ) (S S′ : ℕ → Bool) (loads : (r : ℕ) → r < m → L r ≡ L′ r) (flags : (r : ℕ) → r < m → S r ≡ S′ r) where
-  met-same : (b : Bool) (r : ℕ) (f : Found) → r < m → Below m f → metRow L b r f ≡ metRow L′ b r f
-  unfolding metRow leastOf Below
+  met-same : (b : Bool) (r : ℕ) (f : Found) → r < m → FoundBelow m f → metRow L b r f ≡ metRow L′ b r f
+  unfolding metRow leastOf FoundBelow
   met-same true r f h low = refl
   met-same false r nothing h low = refl
   met-same false r (row q) h low = rw (loads r h, loads q low)
 
-  met-below : (b : Bool) (r : ℕ) (f : Found) → r < m → Below m f → Below m (metRow L b r f)
-  unfolding metRow leastOf Below
+  met-below : (b : Bool) (r : ℕ) (f : Found) → r < m → FoundBelow m f → FoundBelow m (metRow L b r f)
+  unfolding metRow leastOf FoundBelow
   met-below true r f h low = low
   met-below false r nothing h low = h
   met-below false r (row q) h low = either (λ (x : ℕ). x < m) (ltb (L r) (L q)) h low
 
-  mets-same : (n a : ℕ) (f : Found) → a + n ≤ m → Below m f → metRows L S (upFrom a n) f ≡ metRows L′ S′ (upFrom a n) f
+  mets-same : (n a : ℕ) (f : Found) → a + n ≤ m → FoundBelow m f → metRows L S (upFrom a n) f ≡ metRows L′ S′ (upFrom a n) f
   unfolding metRows upFrom
   mets-same zero a f h low = refl
   mets-same (suc n) a f h low =
@@ -42,13 +42,13 @@ module _ (m : ℕ) (L L′ : ℕ → ℕ) (S S′ : ℕ → Bool) (loads : (r : 
       let rest = mets-same n (suc a) (metRow L (S a) a f) (omega arith) (met-below (S a) a f (omega arith) low) in
       rest ∙ rw (one, flags a (omega arith))
 
-  mets-below : (n a : ℕ) (f : Found) → a + n ≤ m → Below m f → Below m (metRows L S (upFrom a n) f)
+  mets-below : (n a : ℕ) (f : Found) → a + n ≤ m → FoundBelow m f → FoundBelow m (metRows L S (upFrom a n) f)
   unfolding metRows upFrom
   mets-below zero a f h low = low
   mets-below (suc n) a f h low = mets-below n (suc a) (metRow L (S a) a f) (omega arith) (met-below (S a) a f (omega arith) low)
 
   pub search-same : (start : ℕ) → start ≤ m → search m L S start ≡ search m L′ S′ start
-  unfolding Below
+  unfolding FoundBelow
   search-same start h =
       let first = mets-same (m - start) start nothing (omega arith) tt in
       sym (met-round L S m start)
@@ -109,23 +109,9 @@ columns-same (suc n) u v e =
     let less : take (3 * n) u ≡ take (3 * n) v = rw (← take-take (3 * n) (3 * n + 3) u (omega arith), f) (take-take (3 * n) (3 * n + 3) v (omega arith)) in
     rw (one, columns-same n u v less)
 
--- one store after what was there
-below-more : (m i x : ℕ) (u : List ℕ) → i < length u → x < m → AllBelow m (take i u) → AllBelow m (take (i + 1) (set u i x))
-unfolding AllBelow
-below-more m i x u h low all j k =
-    let s : j < i + 1 = omega (arith, simp length-take at k) in
-    last (decLt j i)
-  where
-    last : Dec (j < i) → getD (take (i + 1) (set u i x)) j 0 < m
-    last (yes p) =
-        rw (getD-take (i + 1) (set u i x) j 0 (omega arith), getD-set-other u i j x 0 (λ e. omega arith), ← getD-take i u j 0 p)
-        (all j (simp length-take (omega arith)))
-    last (no p) =
-        let e : j ≡ i = omega (arith, simp length-take at k) in
-        rw (e, getD-take (i + 1) (set u i x) i 0 (omega arith), getD-set-same u i x 0 h) low
-
-pub before-below : {m n t : ℕ} {rows loads marks : List ℕ} → t < 3 → Begun m n t rows loads marks → AllBelow m (take (3 * n) rows)
-before-below {m} {n} {t} {rows} early b = part-below m (3 * n + t) 0 (3 * n) rows (omega arith) (omega (arith, b .room)) (b .below)
+-- the rows of the columns before
+pub before-below : {m n t : ℕ} {rows loads marks : List ℕ} → t < 3 → Begun m n t rows loads marks → Below m (take (3 * n) rows)
+before-below {m} {n} {t} {rows} early b = below-within m (3 * n + t) 0 (3 * n) rows (omega arith) (omega (arith, b .room)) (b .below)
 
 -- the table after a pick of column n: the columns before stand as they did, and the column has one row more
 module _ (n t r : ℕ) (rows : List ℕ) (fits : 3 * n + t < length rows) where
@@ -162,7 +148,7 @@ placed {m} n t drawn rows loads marks marks′ c early b e low most size all =
         few = b .few;
         below =
             let k : 3 * n + (t + 1) ≡ 3 * n + t + 1 = omega arith in
-            rw k (below-more m (3 * n + t) (c .row) rows fits low (b .below));
+            rw k (below-set m (3 * n + t) (c .row) rows fits low (b .below));
         flags = rw (cs, set-picked n t (c .row) rows fits) (flags-more _ _ (c .row) marks marks′ size (b .flags) all);
       };
     }

@@ -5,7 +5,8 @@ use mathlib.Core.Path.{_≡_}
 use Prim.Native.Nat.{ℕ, suc, _+_, _*_, _≤_, _<_}
 use lib.ListN.{length, getD, set, take, drop, replicate}
 use Rattle.columns.specs.Rows.{sorted}
-use Rattle.columns.specs.Tables.{flagAt, columnsIn, AllBelow}
+use Rattle.columns.specs.Tables.{flagAt, columnsIn}
+use Rattle.lists.specs.Below.{Below}
 use Rattle.placing.specs.OnePick.{load, skipped, pick}
 
 -- the flags are those of the rows that a pick skips
@@ -29,7 +30,7 @@ pub record Begun (m n t : ℕ) (rows loads marks : List ℕ) : Type 0 where
   pub ready : Ready m (columnsIn rows n) loads marks
   pub room : 3 * n + 3 ≤ length rows
   pub few : 3 * n + 3 < 65536
-  pub below : AllBelow m (take (3 * n + t) rows)
+  pub below : Below m (take (3 * n + t) rows)
   pub flags : Flags (columnsIn rows n) (take t (drop (3 * n) rows)) marks
 
 -- pick t of column n is made, at a drawn number
@@ -43,5 +44,5 @@ pub record Placed (m n t drawn : ℕ) (rows loads : List ℕ) (relaxed : ℕ) (r
 pub record Finished (m n : ℕ) (column rows rows′ loads′ marks′ : List ℕ) : Type 0 where
   pub columns : columnsIn rows′ (suc n) ≡ sorted column ∷ columnsIn rows n
   pub ready : Ready m (columnsIn rows′ (suc n)) loads′ marks′
-  pub below : AllBelow m (take (3 * suc n) rows′)
+  pub below : Below m (take (3 * suc n) rows′)
   pub clear : marks′ ≡ replicate m 0

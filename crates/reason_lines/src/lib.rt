@@ -1,7 +1,8 @@
 // The line of each reason, written into a lent buffer; the line of a check over any checks that lie flat.
 ghost use Prim.Native.Nat.{_+_, _<_, _≤_};
 ghost use lib.ListN.{length};
-ghost use Rattle.tanner.specs.Flat.{Below, FlatChecks, rowsOf};
+ghost use Rattle.tanner.specs.Flat.{FlatChecks, rowsOf};
+ghost use Rattle.lists.specs.Below.{Below};
 ghost use Rattle.text.specs.Written.{Written};
 ghost use Rattle.reason_lines.specs.Lines.{nanLine, pairText, entries, checkLine, checksumLine};
 

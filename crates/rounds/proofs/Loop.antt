@@ -12,7 +12,7 @@ use lib.ListN.{length, take}
 use Rattle.tanner.specs.Checks.{Checks, Word, count, Syndrome, syndrome}
 use Rattle.tanner.specs.Masked.{countMasked, firstMasked, syndromeMasked}
 use Rattle.tanner.specs.Found.{firstOf, syndromeOf}
-use Rattle.tanner.specs.Flat.{Below}
+use Rattle.lists.specs.Below.{Below}
 use Rattle.tanner.proofs.First.{both}
 use Rattle.tanner.specs.declared.Counted.{Counted}
 use Rattle.tanner.specs.declared.FirstCheck.{FirstCheck}

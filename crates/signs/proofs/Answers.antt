@@ -13,26 +13,24 @@ use lib.Dec.{T, ltb, lit≤, lit<}
 use lib.IntN.{ℤ}
 use lib.ListN.{length, replicate}
 use lib.Ieee.{Float, fin, binary32, up, down, unlike, neg, lt, eq, mul, fits, ofBits}
-use lib.Ieee.Fits.{down-pos, cond-fits, neg-fits, mul-fits, div-fits}
+use lib.Ieee.Fits.{down-pos, cond-fits, neg-fits, div-fits}
 use lib.Ieee.Bits.{ofBits-fits}
-use Rattle.softmath.specs.Single.{_⊕_, _⊗_, zero32, one32, two32, foldFrom, product}
+use Rattle.softmath.specs.Single.{_⊕_, _⊗_, zero32, one32, two32, product}
 use Rattle.softmath.specs.Functions.{atanh, clampUnit}
 use Rattle.softmath.specs.CheckNode.{halfTanh, negatedHalfTanh, clampedAnswer, negatedAnswer, ft8Answer}
 use Rattle.code174.proofs.Agreement.{agreed}
 use Rattle.signs.specs.Signs.{oddly, negative, oddNegatives, oddLength, NoneNan, Nonzero, productOf, ProductSign, negatedProductOf, nearPole, BelowPole}
 use Rattle.signs.specs.Signs.{NegatedSign, Ft8Signs}
 use Rattle.signs.proofs.Rounded.{Signed, infinite, finite, Held, Part, part, part-signed, round-part}
-use Rattle.signs.proofs.Laws.{held, part-in, mul-part, less-part, div-part, unlike-false, false-unlike, true-unlike, sign-as, below-edge, above-edge}
+use Rattle.signs.proofs.Laws.{held, part-in, mul-part, less-part, div-part, false-unlike, true-unlike, sign-as, below-edge, above-edge}
+use Rattle.softmath.proofs.Floats.{unlike-false, fold-fits}
+use Rattle.signs.proofs.Tanh.{is-945}
 use Rattle.signs.proofs.Laws.{between-edges}
 use Rattle.signs.proofs.Floor.{Units, AtMost, at-most, times-units, quotient-nonzero, fits-units, twice-nonzero, square-at-most, held-tiny, held-near}
 use Rattle.signs.proofs.Pole.{below-pole}
 use Rattle.signs.proofs.Products.{nonzero-signed, signed-compared, product-sign, negated-sign, product-number, negated-number}
 
 -- ---- the constants
-
-is-945 : Part false 945 945 (ofBits binary32 0x446c4000)
-unfolding ofBits
-is-945 = part (lit≤ tt) (lit≤ tt)
 
 is-minus-735 : Part true 735 735 (neg (ofBits binary32 0x4437c000))
 unfolding neg ofBits
@@ -225,11 +223,6 @@ pub negated-kept : {s : Bool} {q : Float} → Near s q → Part (not s) 0 540 (n
 negated-kept {s} g = sign-as (true-unlike s) (mul-part 2 2 0 270 (held 0 tt) (held 540 tt) is-minus-two (atanh-kept g))
 
 -- f32 holds a product, the clamped one, and an `atanh`
-fold-fits : (a : Float) (ts : List Float) → T (fits binary32 a) → T (fits binary32 (foldFrom _⊗_ a ts))
-unfolding foldFrom
-fold-fits a [] f = f
-fold-fits a (t ∷ ts) f = fold-fits (a ⊗ t) ts (mul-fits binary32 a t)
-
 product-fits : (ts : List Float) → T (fits binary32 (product ts))
 product-fits ts = fold-fits one32 ts (ofBits-fits binary32 0x3f800000)
 

@@ -135,10 +135,6 @@ div-part j k l w q p b {i} {s} {t} (part {m = m} {e = e} lo hi) (part {m = n} {e
 
 -- ---- signs again
 
-pub unlike-false : (s : Bool) → unlike s false ≡ s
-unlike-false true = refl
-unlike-false false = refl
-
 pub false-unlike : (s : Bool) → unlike false s ≡ s
 false-unlike true = refl
 false-unlike false = refl

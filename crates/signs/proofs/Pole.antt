@@ -4,6 +4,7 @@
 use mathlib.Core.Path.{_≡_, refl, sym}
 use mathlib.Core.Bool.{Bool, true, false, cond, _&&_, true≢false}
 use mathlib.Core.List.{List, [], _∷_, _++_, map}
+use mathlib.Mathlib.Data.Bool.Basic.{and-elim-right}
 use Prim.Native.Nat.{ℕ, zero, suc, _+_, _*_, _≤_}
 use native.Mathlib.Nat.{zero-mul, mul-one}
 use native.Mathlib.Numerals.{add-one}
@@ -18,7 +19,7 @@ use Rattle.softmath.specs.Single.{_⊗_, zero32, one32, foldFrom, product}
 use Rattle.softmath.specs.Functions.{tanh, tanhFraction}
 use Rattle.softmath.specs.CheckNode.{negatedHalfTanh}
 use Rattle.code174.specs.Agreement.{each}
-use Rattle.code174.proofs.Tests.{and-right, each-at}
+use Rattle.code174.proofs.Tests.{each-at}
 use Rattle.signs.specs.Signs.{NoneNan, empty, more, nearPole, BelowPole}
 use Rattle.signs.proofs.Rounded.{Signed, infinite, finite, Part, part, part-signed}
 use Rattle.signs.proofs.Laws.{between-edges}
@@ -153,7 +154,7 @@ inside-said (inf true) h = absurd (true≢false (sym h))
 inside-said (inf false) h = absurd (true≢false (sym h))
 inside-said (fin true m e) h = absurd (true≢false (sym h))
 inside-said (fin false m e) h =
-    let l = ltb-true (m * up e * 16) (17 * 1 * down e) (and-right (ltb (0 * down e) (m * up e * 1)) (ltb (m * up e * 16) (17 * 1 * down e)) h) in
+    let l = ltb-true (m * up e * 16) (17 * 1 * down e) (and-elim-right (ltb (0 * down e) (m * up e * 1)) (ltb (m * up e * 16) (17 * 1 * down e)) h) in
     let lo : 0 * down e ≤ m * up e = omega (arith, zero-mul (down e)) in
     let hi : m * up e ≤ 2 * down e = omega arith in
     let under : m * up e * 16 ≤ 17 * 1 * down e = omega arith in

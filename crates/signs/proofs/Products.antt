@@ -18,7 +18,8 @@ use Rattle.softmath.specs.Single.{_⊗_, zero32, one32, foldFrom, product}
 use Rattle.softmath.specs.CheckNode.{halfTanh, negatedHalfTanh}
 use Rattle.signs.specs.Signs.{oddly, negative, oddNegatives, oddLength, NoneNan, empty, more, Nonzero}
 use Rattle.signs.proofs.Rounded.{Signed, infinite, finite, Part, part, part-signed}
-use Rattle.signs.proofs.Laws.{mul-signed, unlike-false, false-unlike, Bounded, bounded, Zero, bounded-in, bounded-number, mul-bounded, zero-times}
+use Rattle.signs.proofs.Laws.{mul-signed, false-unlike, Bounded, bounded, Zero, bounded-in, bounded-number, mul-bounded, zero-times}
+use Rattle.softmath.proofs.Floats.{unlike-false}
 use Rattle.signs.proofs.Laws.{times-zero, held-power}
 use Rattle.signs.proofs.Tanh.{half-tanh-kept, half-tanh-zero}
 

@@ -10,12 +10,13 @@ use Rattle.softmath.specs.Functions.{tanh, tanhFraction}
 use Rattle.softmath.specs.CheckNode.{halfTanh}
 use Rattle.signs.proofs.Rounded.{Signed, infinite, finite, Part, part, round-signed}
 use Rattle.signs.proofs.Sizes.{Leq, leq-refl, mul-leq, square-leq, add-leq, div-leq}
-use Rattle.signs.proofs.Laws.{held, part-in, mul-part, add-part, div-part, unlike-false, unlike-self, sign-as, Zero, bounded, below-edge, above-edge}
+use Rattle.signs.proofs.Laws.{held, part-in, mul-part, add-part, div-part, unlike-self, sign-as, Zero, bounded, below-edge, above-edge}
+use Rattle.softmath.proofs.Floats.{unlike-false}
 use Rattle.signs.proofs.Laws.{between-edges, zero-not-below, zero-not-above}
 
 -- ---- the constants
 
-is-945 : Part false 945 945 (ofBits binary32 0x446c4000)
+pub is-945 : Part false 945 945 (ofBits binary32 0x446c4000)
 unfolding ofBits
 is-945 = part (lit≤ tt) (lit≤ tt)
 

@@ -7,6 +7,7 @@ use native.Mathlib.Omega.{arith}
 use lib.ListN.{length, take, drop, getD, length-append, length-drop, List·getD-append}
 use lib.Seq.{length-take-le, getD-take, getD-drop, getD-append-add}
 use lib.Ieee.{Float, nan}
+use Rattle.lists.proofs.Parts.{part-size}
 use Rattle.softmath.specs.CheckNode.{minSum}
 use Rattle.slots.specs.Columns.{columnFrom}
 use Rattle.slot_minima.specs.Cells.{Cell, Fit, more, none, fresh, noted, notedAll, answerTo, Noted, Answered, NotedColumns, AnsweredColumns}
@@ -24,9 +25,6 @@ room a (suc p) m l b h = omega (arith, suc-mul p m, h)
 -- ---- a part of the work area
 
 module _ (w : List Float) (a m : ℕ) (fits : a + m ≤ length w) where
-  pub part-length : length (take (a + m - a) (drop a w)) ≡ m
-  part-length = rw (add-sub-cancel-left a m) (length-take-le m (drop a w) (simp length-drop (omega arith)))
-
   pub part-at : (c : ℕ) → c < m → getD (take (a + m - a) (drop a w)) c nan ≡ getD w (a + c) nan
   part-at c h = rw (add-sub-cancel-left a m, getD-take m (drop a w) c nan h, getD-drop a w c nan) refl
 
@@ -100,13 +98,13 @@ module _ (m d : ℕ) (w : List Float) (kept₀ : ℕ → Cell) where
   columns-more a n p kept kept' e r slot before =
       record {
         cells = λ c h.
-            let b : c < length (take (a + m - a) (drop a w)) = rw (part-length w a m r) h in
+            let b : c < length (take (a + m - a) (drop a w)) = rw (part-size w a m r) h in
             let one : kept' c ≡ noted (kept c) (getD w (a + c) nan) = slot .cells c b ∙ ap (noted (kept c)) (part-at w a m r c h) in
             let old : notedAll (kept c) (getD w (a + c) nan ∷ columnFrom m p (a + m + c) w) ≡ notedAll (kept₀ c) (columnFrom m d c w) =
             rw (e, column-more m w a p c) at (before .cells c h) in
             rw one old;
         fit = λ c h f.
-            let b : c < length (take (a + m - a) (drop a w)) = rw (part-length w a m r) h in
+            let b : c < length (take (a + m - a) (drop a w)) = rw (part-size w a m r) h in
             before .fit c h (rw (e, column-more m w a p c) (more (rw (part-at w a m r c h) at (slot .fit c b)) f));
       }
 
@@ -127,7 +125,7 @@ pub record AnsweredFrom (scale : Float) (m d : ℕ) (kept : ℕ → Cell) (w₀ 
 pub answered-length : (scale : Float) (m : ℕ) (kept : ℕ → Cell) (a : ℕ) (w part : List Float) → a + m ≤ length w
     → Answered scale kept (take (a + m - a) (drop a w)) part
     → length (take a w ++ (part ++ drop (a + m - a) (drop a w))) ≡ length w
-answered-length scale m kept a w part r answered = replaced-length w a m r part (answered .long ∙ part-length w a m r)
+answered-length scale m kept a w part r answered = replaced-length w a m r part (answered .long ∙ part-size w a m r)
 
 module _ (scale : Float) (m d : ℕ) (kept : ℕ → Cell) (w₀ : List Float) where
   pub answers-none : AnsweredFrom scale m d kept w₀ 0 d w₀
@@ -136,11 +134,11 @@ module _ (scale : Float) (m d : ℕ) (kept : ℕ → Cell) (w₀ : List Float) w
   pub answers-more : (a n p : ℕ) (w part : List Float) → n ≡ suc p → (r : a + m ≤ length w) → Answered scale kept (take (a + m - a) (drop a w)) part
       → AnsweredFrom scale m d kept w₀ a n w → AnsweredFrom scale m d kept w₀ (a + m) p (take a w ++ (part ++ drop (a + m - a) (drop a w)))
   answers-more a n p w part e r answered before =
-      let long : length part ≡ m = answered .long ∙ part-length w a m r in
+      let long : length part ≡ m = answered .long ∙ part-size w a m r in
       record {
         whole = λ w' front back. before .whole w' (λ k h. front k (omega (arith, h)) ∙ replaced-before w a m r part long k h)
             (λ c h.
-            let b : c < length (take (a + m - a) (drop a w)) = rw (part-length w a m r) h in
+            let b : c < length (take (a + m - a) (drop a w)) = rw (part-size w a m r) h in
             let f = answerTo scale (kept c) in
             let own : getD w' (a + c) nan ≡ f (getD w (a + c) nan) =
             front (a + c) (omega (arith, h)) ∙ replaced-in w a m r part long c h ∙ answered .answers c b ∙ ap f (part-at w a m r c h) in

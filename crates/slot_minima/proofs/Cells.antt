@@ -5,11 +5,10 @@
 use mathlib.Core.Bool.{Bool, true, false, cond}
 use mathlib.Core.Path.{_≡_, refl, sym, ap, _∙_}
 use mathlib.Core.List.{List, [], _∷_, map}
-use Prim.Native.Nat.{ℕ, zero, suc, _<_}
+use Prim.Native.Nat.{ℕ}
 use native.Mathlib.Omega.{arith}
 use lib.Dec.{T}
-use lib.ListN.{length, getD}
-use lib.Ieee.{Float, nan, binary32, fits, lt, eq}
+use lib.Ieee.{Float, binary32, fits, lt, eq}
 use Rattle.softmath.specs.Single.{foldFrom}
 use Rattle.softmath.specs.Functions.{magnitudeOf}
 use Rattle.softmath.specs.CheckNode.{turned, minSum}
@@ -164,11 +163,6 @@ sign-all [] t = refl
 sign-all (v ∷ vs) t = sign-all vs (noted t v)
 
 -- ---- the answers
-
-map-at : (f : Float → Float) (l : List Float) (i : ℕ) → i < length l → getD (map f l) i nan ≡ f (getD l i nan)
-map-at f [] i h = absurd (omega (arith, h))
-map-at f (x ∷ l) zero h = refl
-map-at f (x ∷ l) (suc i) h = map-at f l i (omega (arith, h))
 
 module _ (scale : Float) where
   answers-all : (vs : List Float) (t : Cell) → Fit vs → Kept t → map (answerTo scale (notedAll t vs)) vs ≡ answersFrom scale (t .least) (t .sign) vs

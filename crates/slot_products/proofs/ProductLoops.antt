@@ -34,20 +34,7 @@ times-done l s r n c el t e =
     let h : length l ≤ c = omega arith in
     simp (take-all, drop-of-length-le, append-nil, h) at e
 
--- ---- a copy, and the ones
-
-pub copy-more : (l s r : List Float) (n c : ℕ) → n ≡ length s → length l ≡ n → c < n → take c l ++ drop c s ≡ r
-    → take (c + 1) (set l c (getD s c nan)) ++ drop (c + 1) s ≡ r
-copy-more l s r n c es el t e =
-    let h : c < length l = omega arith in
-    let k : c < length s = omega arith in
-    rw (add-one, take-suc-set, append-assoc) (rw (drop-cons s c nan k) at e)
-
-pub copy-done : (l s r : List Float) (n c : ℕ) → n ≡ length s → length l ≡ n → n ≤ c → take c l ++ drop c s ≡ r → l ≡ r
-copy-done l s r n c es el t e =
-    let h : length l ≤ c = omega arith in
-    let k : length s ≤ c = omega arith in
-    simp (take-all, drop-of-length-le, append-nil, h, k) at e
+-- ---- the ones
 
 pub ones-more : (l r : List Float) (n c : ℕ) → length l ≡ n → c < length l → take c l ++ ones (n - c) ≡ r
     → take (c + 1) (set l c one32) ++ ones (n - (c + 1)) ≡ r

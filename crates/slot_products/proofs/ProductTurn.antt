@@ -9,7 +9,7 @@ use lib.Seq.{length-take-le, take-at, drop-at, drop-drop}
 use lib.Ieee.{Float}
 use Rattle.softmath.specs.Single.{one32}
 use Rattle.slots.specs.Columns.{column}
-use Rattle.softmath.proofs.InPlace.{rest-whole}
+use Rattle.lists.proofs.Parts.{rest-whole, part-size}
 use Rattle.slot_products.specs.Products.{times, timesSlots, slotProducts, ones, SlotTurned, ByColumns}
 use Rattle.slot_products.proofs.ProductLoops.{times-length}
 use Rattle.slot_products.proofs.ProductColumns.{slots-length, products-column, products-rest}
@@ -22,15 +22,10 @@ front-length m s r h =
     let e : length (take m s) ≡ m = length-take-le m s h in
     sym (ap length (take-at (take m s) (r ++ drop (m + m - m) (drop m s)) m e) ∙ e)
 
-slot-length : (m a : ℕ) (w : List Float) → a + m ≤ length w → m ≡ length (take (a + m - a) (drop a w))
-slot-length m a w h =
-    let am : a + m - a ≡ m = omega arith in
-    rw am (sym (length-take-le m (drop a w) (simp length-drop (omega arith))))
-
 -- and hence as the slot that it is multiplied with
 pub front-slot : (m a : ℕ) (s r w : List Float) → m ≤ length s → a + m ≤ length w
     → length (take m (take m s ++ (r ++ drop (m + m - m) (drop m s)))) ≡ length (take (a + m - a) (drop a w))
-front-slot m a s r w h l = sym (front-length m s r h) ∙ slot-length m a w l
+front-slot m a s r w h l = sym (front-length m s r h) ∙ sym (part-size w a m l)
 
 module _ (m left a : ℕ) (w s : List Float) (room : a + m + left * m ≤ length w) (long : m + m ≤ length s) where
   part-length : length (take m s) ≡ m

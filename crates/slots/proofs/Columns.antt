@@ -6,6 +6,7 @@ use native.Mathlib.Nat.{suc-mul}
 use native.Mathlib.Omega.{arith}
 use lib.ListN.{length, getD}
 use lib.Ieee.{Float, nan}
+use Rattle.lists.proofs.Parts.{map-at}
 use Rattle.slots.specs.Columns.{columnFrom, column}
 use Rattle.slots.proofs.Edges.{entry-below}
 
@@ -33,18 +34,13 @@ column-length m (suc d) p w = ap suc (column-length m d (m + p) w)
 
 -- ---- a function of each entry
 
-float-at : (f : Float → Float) (w : List Float) (k : ℕ) → k < length w → getD (map f w) k nan ≡ f (getD w k nan)
-float-at f [] k h = absurd (omega arith)
-float-at f (x ∷ w) zero h = refl
-float-at f (x ∷ w) (suc k) h = float-at f w k (omega arith)
-
 from-map : (f : Float → Float) (m d p : ℕ) (w : List Float) → ((j : ℕ) → j < d → j * m + p < length w) → columnFrom m d p (map f w) ≡ map f (columnFrom m d p w)
 unfolding columnFrom
 from-map f m zero p w h = refl
 from-map f m (suc d) p w h =
     let first : p < length w = omega (arith, h 0 (omega arith)) in
     let rest = from-map f m d (m + p) w (λ j l. omega (arith, h (suc j) (omega arith), suc-mul j m)) in
-    rw (float-at f w p first, rest)
+    rw (map-at f w p nan nan first, rest)
 
 -- a column of what a function leaves of each entry
 pub column-map : (f : Float → Float) (m d c : ℕ) (w : List Float) → c < m → d * m ≤ length w → column m d c (map f w) ≡ map f (column m d c w)

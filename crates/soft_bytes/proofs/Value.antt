@@ -22,13 +22,15 @@ use mathlib.Core.Bool.{Bool, true, false, not, _&&_, _||_, Bool·beq, true≢fal
 use lib.Dec.{T, lit≤, eqb, leb, eqb→eq, leb→le, le→leb, lt→ltb, eqb·suc-zero, not-T}
 use lib.IntN.{ℤ, pos}
 use lib.Pow.{shl-lt, pow-mono}
-use lib.Ieee.{Float, nan, inf, fin, binary32, up, down, unlike, neg, mul, eq, lt, round, ofInt, ofBits, inFloat, inSigned, toUnsigned, toSigned, div}
+use lib.Ieee.{Float, nan, inf, fin, binary32, up, down, neg, mul, eq, lt, round, ofInt, ofBits, inFloat, inSigned, toUnsigned, toSigned, div}
 use lib.Ieee.Fits.{and-l, and-r, and-i, eq→eqb, up-pos, down-pos}
 use lib.Ieee.Exact.{HasValue, round-exact}
 use lib.Ieee.Back.{round-whole, unsigned-back, positive-back, negative-back}
 use lib.Ieee.Scale.{round-same}
 use borrow.Author.Tests.{ltb-true, ltb-false, le-ltb}
-use Rattle.soft_bytes.specs.Values.{zero32, eighth32, eight32, timesEighth, wholeEighths, minusZero, passes, signed, eightTimes}
+use Rattle.softmath.proofs.Floats.{unlike-false}
+use Rattle.soft_bytes.specs.Values.{eighth32, eight32, timesEighth, wholeEighths, minusZero, passes, signed, eightTimes}
+use Rattle.softmath.specs.Single.{zero32}
 
 pub same-test : (a b : Bool) → (T a → T b) → (T b → T a) → a ≡ b
 same-test true true p q = refl
@@ -76,10 +78,6 @@ eighths-whole (fin t m e) s n h =
     )
 
 -- ---- eight times it, and a byte over eight: neither is rounded
-
-pub unlike-false : (t : Bool) → unlike t false ≡ t
-unlike-false true = refl
-unlike-false false = refl
 
 -- eight times n eighths is n
 pub times-eight : (x : Float) (s : Bool) (n : ℕ) → HasValue x s n 8 → mul binary32 x eight32 ≡ round binary32 s n 1

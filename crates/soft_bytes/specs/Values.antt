@@ -4,10 +4,7 @@ use mathlib.Core.Bool.{Bool, false, not, _&&_, cond}
 use lib.Dec.{eqb, leb}
 use lib.IntN.{ℤ, pos, negsuc, negℤ}
 use lib.Ieee.{Float, nan, inf, fin, binary32, up, down, neg, mul, ofInt, ofBits}
-
--- +0.0
-abbrev pub zero32 : Float
-zero32 = ofBits binary32 0
+use Rattle.softmath.specs.Single.{zero32}
 
 -- 0.125
 abbrev pub eighth32 : Float

@@ -2,7 +2,8 @@
 ghost use mathlib.Core.Path.{_≡_};
 ghost use mathlib.Core.Bool.{true, false};
 ghost use lib.Ieee.{lt};
-ghost use Rattle.soft_bytes.specs.Values.{zero32, valueOf, wholeEighths, minusZero, passes, byteOf};
+ghost use Rattle.soft_bytes.specs.Values.{valueOf, wholeEighths, minusZero, passes, byteOf};
+ghost use Rattle.softmath.specs.Single.{zero32};
 
 // The value of a byte: a zero has no sign in either model.
 pub fn value_of(b: i8, positive_is_one: bool) -> f32

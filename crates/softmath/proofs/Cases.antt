@@ -3,28 +3,18 @@ use mathlib.Core.Path.{_≡_, refl}
 use mathlib.Core.Bool.{false}
 use mathlib.Core.List.{[], _∷_}
 use Prim.Native.Nat.{ℕ}
-use lib.Ieee.{Float, nan, binary32, round, add, mul, div, neg, lt, ofBits}
-use Rattle.softmath.specs.Single.{zero32, one32, two32, foldFrom}
-use Rattle.softmath.specs.Functions.{tanh, atanh, magnitudeOf}
-use Rattle.softmath.specs.CheckNode.{checkStep, minSum, minimaOf, minimaFrom, seen, minAnswer, minAnswers}
+use lib.Ieee.{Float, binary32, round, add, mul, div, neg, lt, ofBits}
+use Rattle.softmath.specs.Single.{zero32, one32, foldFrom}
+use Rattle.softmath.specs.Functions.{tanh, atanh}
 use Rattle.softmath.specs.VariableNode.{decisionSum, messageTotal}
-use Rattle.softmath.specs.declared.DecodeRule.the-variants.{MinSum}
 use Rattle.softmath.proofs.ZeroStart.{minusZero32}
 
--- 3.0, and 16,777,216 with its next number
-abbrev pub three32 : Float
-three32 = ofBits binary32 0x40400000
-
+-- 16,777,216 and its next number
 abbrev large32 : Float
 large32 = ofBits binary32 0x4b800000
 
 abbrev next32 : Float
 next32 = ofBits binary32 0x4b800001
-
--- "(P) Min-sum on 2.0, -3.0, 2.0, NaN gives -2.0, 2.0, -2.0, -2.0."
-pub min-sum-case : checkStep MinSum (two32 ∷ neg three32 ∷ two32 ∷ nan ∷ []) ≡ neg two32 ∷ two32 ∷ neg two32 ∷ neg two32 ∷ []
-unfolding checkStep minSum minimaOf minimaFrom seen minAnswer minAnswers magnitudeOf ofBits neg lt mul
-min-sum-case = refl
 
 -- "`fast_tanh` of 1.0 is 1051/1380 rounded; of 5.0, 1.0. `fast_atanh` of 1.0 is 274/120 rounded."
 abbrev rounded : ℕ → ℕ → Float

@@ -6,7 +6,7 @@ use lib.ListN.{length, drop, getD}
 use lib.Ieee.{Float, nan}
 use Rattle.softmath.specs.Single.{foldFrom}
 use Rattle.softmath.specs.CheckNode.{overOthers}
-use Rattle.softmath.proofs.InPlace.{read-more}
+use Rattle.lists.proofs.Loops.{read-more}
 
 module _ (op : Float → Float → Float) where
   -- at each entry the fold of the entries after it, started from the fold of those before

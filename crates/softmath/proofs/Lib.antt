@@ -1,4 +1,4 @@
-pub mod InPlace
+pub mod Floats
 pub mod LeaveOneOut
 pub mod Signless
 pub mod Steps

@@ -7,8 +7,9 @@ use native.Mathlib.Omega.{arith}
 use lib.ListN.{length, getD, set, length-set, length-map}
 use lib.Seq.{getD-set-same, getD-set-other}
 use lib.Ieee.{Float, nan}
+use Rattle.lists.specs.Below.{Below}
 use Rattle.softmath.specs.Single.{_⊖_, sumFrom}
-use Rattle.softmath.specs.VariableNode.{messageTotal, newMessages, answersAt, EdgesWithin, Distinct, none, more, putAt}
+use Rattle.softmath.specs.VariableNode.{messageTotal, newMessages, answersAt, Distinct, none, more, putAt}
 use Rattle.softmath.specs.declared.SumKind.{SumKind}
 use Rattle.softmath.specs.declared.SumKind.the-variants.{Total, Others}
 use Rattle.softmath.proofs.Steps.{each-length}
@@ -29,9 +30,9 @@ put-other (e ∷ es) [] w i h = refl
 put-other (e ∷ es) (v ∷ vs) w i h =
     put-other es vs (set w e v) i (rest-none i e es h) ∙ getD-set-other w e i v nan (λ eq. h 0 (omega arith) (sym eq))
 
-pub put-same : {es : List ℕ} (vs w : List Float) (k : ℕ) → Distinct es → EdgesWithin es (length w) → length vs ≡ length es → k < length es
+pub put-same : {es : List ℕ} (vs w : List Float) (k : ℕ) → Distinct es → Below (length w) es → length vs ≡ length es → k < length es
     → getD (putAt es vs w) (getD es k 0) nan ≡ getD vs k nan
-unfolding putAt EdgesWithin
+unfolding putAt Below
 put-same vs w k none g e h = absurd (omega arith)
 put-same [] w k (more a d) g e h = absurd (omega arith)
 put-same (v ∷ vs) w zero (more {e = x} {es = es} a d) g e h = put-other es vs (set w x v) x a ∙ getD-set-same w x v nan (g 0 (omega arith))

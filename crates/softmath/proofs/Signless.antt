@@ -1,28 +1,18 @@
 -- The magnitude by comparisons is the value without its sign: by cases, since a zero that fits the format is written in one way. Assumes nothing.
 use mathlib.Core.Path.{_≡_, refl, _∙_}
-use mathlib.Core.Bool.{Bool, true, false, cond, _&&_}
-use Prim.Native.Nat.{ℕ, zero, suc, _+_, _*_, _^_, _<_, _≤_}
-use native.Mathlib.Nat.{pow-suc, mul-pos}
+use mathlib.Core.Bool.{Bool, true, false, cond}
+use mathlib.Mathlib.Data.Bool.Basic.{and-elim-left}
+use Prim.Native.Nat.{ℕ, zero, suc, _+_, _*_, _<_, _≤_}
+use native.Mathlib.Nat.{mul-pos}
 use native.Mathlib.Omega.{arith}
-use lib.Pow.{pow-pos}
-use lib.IntN.{ℤ, pos, negsuc}
+use lib.IntN.{ℤ}
 use lib.Ieee.{Float, nan, inf, fin, binary32, up, down, fits, neg, lt, eq, ofBits}
 use lib.Ieee.Fits.{up-pos, down-pos}
 use lib.Dec.{ltb}
 use borrow.Author.Tests.{ltb-false, eqb-true, eq-eqb}
 use Rattle.softmath.specs.Single.{zero32}
 use Rattle.softmath.specs.Functions.{magnitudeOf}
-
-both-true : (a b : Bool) → (a && b) ≡ true → a ≡ true
-both-true true b h = refl
-both-true false b h = h
-
--- a zero that fits has exponent 0
-zero-exponent : (s : Bool) (e : ℤ) → fits binary32 (fin s zero e) ≡ true → e ≡ pos 0
-unfolding fits
-zero-exponent s (pos zero) h = refl
-zero-exponent s (pos (suc k)) h = absurd (omega (arith, eqb-true (2 ^ suc k * 1) 1 h, pow-suc 2 k, pow-pos k))
-zero-exponent s (negsuc k) h = absurd (omega (arith, eqb-true (1 * 2 ^ suc k) 1 h, pow-suc 2 k, pow-pos k))
+use Rattle.softmath.proofs.Floats.{zero-exponent}
 
 -- a magnitude of no units has no digits
 no-digits : (m : ℕ) (e : ℤ) → m * up e * 1 ≤ 0 → m ≡ 0
@@ -48,13 +38,13 @@ equals-zero : (x : Float) → fits binary32 x ≡ true → eq x zero32 ≡ true 
 unfolding eq magnitudeOf ofBits
 equals-zero nan g h = cc
 equals-zero (inf s) g h = cc
-equals-zero (fin s m e) g h = at-zero s m e (no-digits m e (omega (arith, eqb-true (m * up e * 1) (0 * down e) (both-true _ _ h)))) g
+equals-zero (fin s m e) g h = at-zero s m e (no-digits m e (omega (arith, eqb-true (m * up e * 1) (0 * down e) (and-elim-left _ _ h)))) g
 
 negated-zero : (x : Float) → fits binary32 x ≡ true → eq (neg x) zero32 ≡ true → zero32 ≡ magnitudeOf x
 unfolding neg eq magnitudeOf ofBits
 negated-zero nan g h = cc
 negated-zero (inf s) g h = cc
-negated-zero (fin s m e) g h = at-zero s m e (no-digits m e (omega (arith, eqb-true (m * up e * 1) (0 * down e) (both-true _ _ h)))) g
+negated-zero (fin s m e) g h = at-zero s m e (no-digits m e (omega (arith, eqb-true (m * up e * 1) (0 * down e) (and-elim-left _ _ h)))) g
 
 -- the greater of a value and its negative, where it is a zero, and where it is none
 either-zero : (b : Bool) (x : Float) → fits binary32 x ≡ true → eq (cond b x (neg x)) zero32 ≡ true → zero32 ≡ magnitudeOf x

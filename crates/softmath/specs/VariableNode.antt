@@ -29,10 +29,6 @@ newMessages Others llr answers = atEach (λ others. sumFrom llr others) answers
 unfoldable pub answersAt : List Float → List ℕ → List Float
 answersAt w edges = map (λ e. getD w e nan) edges
 
--- every edge is a place of a work area of n floats
-unfoldable pub EdgesWithin : List ℕ → ℕ → Type 0
-EdgesWithin edges n = (k : ℕ) → k < length edges → getD edges k 0 < n
-
 -- no edge stands twice
 pub data Distinct : List ℕ → Type 0 where
   none : Distinct []

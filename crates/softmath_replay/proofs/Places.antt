@@ -3,8 +3,8 @@ use mathlib.Core.Path.{_≡_}
 use mathlib.Core.List.{[], _∷_}
 use Prim.Native.Nat.{ℕ}
 use native.Mathlib.Omega.{arith}
-use Rattle.tanner.specs.Flat.{Below}
-use Rattle.tanner.proofs.Below.{below-none, below-cons}
+use Rattle.lists.specs.Below.{Below}
+use Rattle.lists.proofs.Below.{below-none, below-cons}
 use Rattle.variable_node.specs.Passes.{Listed}
 
 pub three-edges : (n : ℕ) → 11 ≡ n → Listed 1 (3 ∷ 7 ∷ 1 ∷ []) n

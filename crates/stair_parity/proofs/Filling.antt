@@ -11,8 +11,8 @@ use lib.ListN.{length, getD, take, drop, set}
 use lib.Seq.{getD-set-same, getD-set-other}
 use Rattle.tanner.specs.Checks.{Checks, xorFrom, nonzero}
 use Rattle.tanner.specs.Masked.{countMasked}
-use Rattle.tanner.specs.Flat.{Below}
-use Rattle.tanner.proofs.Below.{below-part, below-first, below-rest}
+use Rattle.lists.specs.Below.{Below}
+use Rattle.lists.proofs.Below.{below-part, below-first, below-rest}
 use Rattle.tanner.proofs.Count.{nonzero-bit}
 use Rattle.staircase.specs.Shape.{stairRow, stairRows}
 use Rattle.stairs.specs.Stairs.{Stairs, bitBefore}

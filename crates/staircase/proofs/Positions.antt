@@ -9,8 +9,9 @@ use native.Mathlib.Omega.{arith}
 use lib.ListN.{length, getD}
 use Rattle.columns.specs.Rows.{holds}
 use Rattle.construction.specs.Codes.{Code, blockLength}
-use Rattle.tanner.specs.Flat.{Below, joined}
-use Rattle.tanner.proofs.Below.{below-none, below-cons, below-append}
+use Rattle.tanner.specs.Flat.{joined}
+use Rattle.lists.specs.Below.{Below}
+use Rattle.lists.proofs.Below.{below-none, below-cons, below-append}
 use Rattle.staircase.specs.Staircase.{taps, parityEntries, checkRow, checkRows, checksOf}
 use Rattle.staircase.specs.Codes.{columns, checks}
 use Rattle.staircase.proofs.EdgeCount.{columns-length}

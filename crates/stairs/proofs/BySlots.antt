@@ -11,8 +11,9 @@ use lib.Dec.{eqb, ltb}
 use lib.ListN.{length, getD, drop, length-append, length-drop}
 use lib.Seq.{length-take-le}
 use Rattle.tanner.specs.Checks.{Checks}
-use Rattle.tanner.specs.Flat.{Below, joined, places}
-use Rattle.tanner.proofs.Below.{below-part}
+use Rattle.tanner.specs.Flat.{joined, places}
+use Rattle.lists.specs.Below.{Below}
+use Rattle.lists.proofs.Below.{below-part}
 use Rattle.tanner.proofs.Places.{places-append}
 use Rattle.slots.specs.Layout.{row, Slotted, slotFrom, slotEdges, padsFrom, padPlaces, parityPlaces}
 use Rattle.staircase.specs.Staircase.{parityEntries}

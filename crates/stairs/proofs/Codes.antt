@@ -1,13 +1,14 @@
 -- Each code's table of message positions is what the calls ask: as long as M rows of its width, every entry a message position. By computation. Assumes
 -- nothing.
 use mathlib.Core.Path.{_≡_, refl}
-use mathlib.Core.Bool.{Bool, true, false, _&&_}
+use mathlib.Core.Bool.{Bool, true, _&&_}
 use mathlib.Core.List.{List, [], _∷_}
+use mathlib.Mathlib.Data.Bool.Basic.{and-elim-left, and-elim-right}
 use Prim.Native.Nat.{ℕ, zero, suc, _≤_}
 use native.Mathlib.Omega.{arith}
 use borrow.Author.Tests.{ltb-true}
 use lib.Dec.{ltb}
-use Rattle.tanner.specs.Flat.{Below}
+use Rattle.lists.specs.Below.{Below}
 use Rattle.n512r12.proofs.Tables.{taps0}
 use Rattle.n576r23.proofs.Tables.{taps1}
 use Rattle.n512r34.proofs.Tables.{taps2}
@@ -18,19 +19,11 @@ unfoldable pub allBelow : ℕ → List ℕ → Bool
 allBelow n [] = true
 allBelow n (x ∷ xs) = ltb x n && allBelow n xs
 
-true-false : {A : Type 0} → _≡_ {A = Bool} false true → A
-true-false p = let n : _≡_ {A = ℕ} 0 1 = cc in absurd (omega arith)
-
-split : (a b : Bool) → (a && b) ≡ true → (a ≡ true) × (b ≡ true)
-split true true p = (refl, refl)
-split true false p = true-false p
-split false b p = true-false p
-
 pub tested : (n : ℕ) (xs : List ℕ) → allBelow n xs ≡ true → Below n xs
 unfolding allBelow Below
 tested n [] t k h = absurd (omega arith)
-tested n (x ∷ xs) t zero h = ltb-true x n (split (ltb x n) (allBelow n xs) t .0)
-tested n (x ∷ xs) t (suc k) h = tested n xs (split (ltb x n) (allBelow n xs) t .1) k (omega arith)
+tested n (x ∷ xs) t zero h = ltb-true x n (and-elim-left (ltb x n) (allBelow n xs) t)
+tested n (x ∷ xs) t (suc k) h = tested n xs (and-elim-right (ltb x n) (allBelow n xs) t) k (omega arith)
 
 pub stairs0 : (n : ℕ) → 512 ≤ n → Stairs 256 3 256 n taps0
 unfolding taps0 allBelow

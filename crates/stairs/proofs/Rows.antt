@@ -9,8 +9,8 @@ use native.Mathlib.Omega.{arith}
 use lib.Bits.{bitXor, xor-zero-r}
 use lib.ListN.{getD, take, drop}
 use Rattle.tanner.specs.Checks.{xorFrom}
-use Rattle.tanner.specs.Flat.{Below}
-use Rattle.tanner.proofs.Below.{below-part, below-less}
+use Rattle.lists.specs.Below.{Below}
+use Rattle.lists.proofs.Below.{below-part, below-less}
 use Rattle.staircase.specs.Staircase.{parityEntries}
 use Rattle.staircase.specs.Shape.{tapsAt, stairRow, stairRows, stairs}
 use Rattle.stairs.specs.Stairs.{bitBefore}

@@ -4,7 +4,7 @@ use mathlib.Core.List.{List}
 use Prim.Native.Nat.{ℕ, zero, suc, _+_, _*_, _<_, _≤_}
 use lib.ListN.{length, getD}
 use Rattle.tanner.specs.Checks.{Word}
-use Rattle.tanner.specs.Flat.{Below}
+use Rattle.lists.specs.Below.{Below}
 
 -- m rows of `width` message positions each, all of them below k, and a word of n bytes that has room for m parity bits after those
 pub record Stairs (k width m n : ℕ) (table : List ℕ) : Type 0 where

@@ -8,8 +8,8 @@ use lib.ListN.{length, getD, take, length-map, List·getD-map}
 use lib.Seq.{getD-take}
 use Rattle.tanner.specs.Checks.{Word, Checks, parity, count, lowBits, xorFrom, nonzero, countBytes}
 use Rattle.tanner.specs.Masked.{countMasked}
-use Rattle.tanner.specs.Flat.{Below}
-use Rattle.tanner.proofs.Below.{below-at}
+use Rattle.lists.specs.Below.{Below}
+use Rattle.lists.proofs.Below.{below-at}
 
 -- ---- parity and count
 

@@ -12,7 +12,7 @@ use lib.ListN.{length, getD, take}
 use Rattle.tanner.specs.Checks.{Word, Checks, First, check, none, Syndrome, parity, count, lowBits}
 use Rattle.tanner.specs.Checks.{xorFrom, nonzero, countBytes, firstBy, firstUnsatisfied, FirstIs, counted, satisfied, syndrome, syndromeOfBytes}
 use Rattle.tanner.specs.Masked.{measured, countMasked, syndromeMasked}
-use Rattle.tanner.specs.Flat.{Below}
+use Rattle.lists.specs.Below.{Below}
 use Rattle.tanner.proofs.Count.{AllBelow, none as no-more, more, low-check, low-count, byte-check, byte-count, parity-front, count-front}
 
 -- ---- two measures that agree find the same check

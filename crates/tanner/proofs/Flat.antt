@@ -8,10 +8,11 @@ use native.Mathlib.Omega.{arith}
 use lib.ListN.{length, getD, take, drop, length-append}
 use lib.Seq.{take-at, drop-at}
 use Rattle.tanner.specs.Checks.{Checks}
-use Rattle.tanner.specs.Flat.{joined, ends, offsets, cut, rowsFrom, rowsOf, Below, Within, FlatChecks, places, edgesFrom}
+use Rattle.tanner.specs.Flat.{joined, ends, offsets, cut, rowsFrom, rowsOf, Within, FlatChecks, places, edgesFrom}
+use Rattle.lists.specs.Below.{Below}
 use Rattle.tanner.proofs.Count.{AllBelow, none, more}
 use Rattle.tanner.proofs.Places.{places-stand}
-use Rattle.tanner.proofs.Below.{below-none, below-append, below-left, below-right}
+use Rattle.lists.proofs.Below.{below-none, below-append, below-left, below-right}
 
 -- ---- what lies in the arrays is the check list
 

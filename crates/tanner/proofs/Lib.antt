@@ -1,4 +1,3 @@
-pub mod Below
 pub mod Count
 pub mod Flat
 pub mod Steps

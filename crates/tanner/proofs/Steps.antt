@@ -12,8 +12,7 @@ use lib.Seq.{drop-cons}
 use borrow.Author.Tests.{eq-eqb, ne-eqb}
 use Rattle.tanner.specs.Checks.{Checks, First, check, none, xorFrom, nonzero, firstBy}
 use Rattle.tanner.specs.Masked.{countMasked, measured}
-use Rattle.tanner.specs.Flat.{cut, rowsFrom, Below}
-pub use Rattle.tanner.proofs.Below.{below-part as part-below}
+use Rattle.tanner.specs.Flat.{cut, rowsFrom}
 
 pub xor-more : (ps bytes : List ℕ) (x i z : ℕ) → i < length ps → xorFrom x (drop i ps) bytes ≡ z
     → xorFrom (bitXor x (getD bytes (getD ps i 0) 0)) (drop (i + 1) ps) bytes ≡ z

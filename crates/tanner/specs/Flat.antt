@@ -4,6 +4,7 @@ use mathlib.Core.List.{List, [], _∷_, _++_}
 use Prim.Native.Nat.{ℕ, zero, suc, _+_, _-_, _<_, _≤_}
 use lib.Dec.{eqb}
 use lib.ListN.{length, getD, take, drop}
+use Rattle.lists.specs.Below.{Below}
 use Rattle.tanner.specs.Checks.{Checks}
 
 -- the lists one after another
@@ -32,10 +33,6 @@ rowsFrom starts c flat = cut (getD starts c 0) (drop (c + 1) starts) flat
 -- all lists
 abbrev pub rowsOf : List ℕ → List ℕ → Checks
 rowsOf starts flat = rowsFrom starts 0 flat
-
--- each entry is below n
-unfoldable pub Below : ℕ → List ℕ → Type 0
-Below n ps = (k : ℕ) → k < length ps → getD ps k 0 < n
 
 -- the starts rise and stay within n
 unfoldable pub Within : List ℕ → ℕ → Type 0

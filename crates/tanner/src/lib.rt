@@ -3,7 +3,7 @@ use refusal::Refusal;
 ghost use mathlib.Core.Path.{_≡_};
 ghost use lib.ListN.{length};
 ghost use Rattle.tanner.specs.Checks.{xorFrom};
-ghost use Rattle.tanner.specs.Flat.{Below};
+ghost use Rattle.lists.specs.Below.{Below};
 
 // The first of the checks that a count includes: its number, counted from 0, unless every check is satisfied.
 pub enum FirstCheck {

@@ -13,7 +13,7 @@ use Rattle.softmath.specs.CheckNode.{overOthers}
 use Rattle.softmath.specs.VariableNode.{newMessages, answersAt, putAt}
 use Rattle.softmath.specs.declared.SumKind.{SumKind}
 use Rattle.softmath.specs.declared.SumKind.the-variants.{Total, Others}
-use Rattle.tanner.specs.Flat.{Below}
+use Rattle.lists.specs.Below.{Below}
 use Rattle.slots.specs.Layout.{threeAt, scattered}
 use Rattle.variable_node.specs.Passes.{turns, Pass, passOf, bitDone, messageTo, threeTurn, threeFirst, Listed}
 

@@ -8,7 +8,7 @@ use Rattle.softmath.specs.Functions.{decide}
 use Rattle.softmath.specs.VariableNode.{decisionSum, newMessages, answersAt, putAt}
 use Rattle.softmath.specs.declared.SumKind.{SumKind}
 use Rattle.softmath.specs.declared.SumKind.the-variants.{Total, Others}
-use Rattle.tanner.specs.Flat.{Below}
+use Rattle.lists.specs.Below.{Below}
 use Rattle.slots.specs.Layout.{threeAt, scattered}
 
 -- the turns 0 to n - 1, one after the other

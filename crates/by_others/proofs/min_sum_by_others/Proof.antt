@@ -8,7 +8,7 @@ use lib.ListN.{length, take, drop, length-set}
 use lib.Seq.{length-take-le}
 use Rattle.softmath.specs.CheckNode.{overOthers}
 use Rattle.by_others.specs.Others.{othersAnswer, othersSum}
-use Rattle.softmath.proofs.InPlace.{rest-whole}
+use Rattle.lists.proofs.Parts.{rest-whole}
 use Rattle.by_others.proofs.ByOthers.{others-more, others-done}
 use borrow.Author.Needs.{needs}
 use Rattle.by_others.proofs.min_sum_by_others.Statement.{statement}

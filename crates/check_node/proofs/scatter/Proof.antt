@@ -3,7 +3,7 @@ use mathlib.Core.Path.{_≡_}
 use Prim.Native.Nat.{_-_, _≤_}
 use native.Mathlib.Omega.{arith}
 use lib.ListN.{length, drop, length-set}
-use Rattle.tanner.specs.Flat.{Below}
+use Rattle.lists.specs.Below.{Below}
 use Rattle.slots.specs.Layout.{scattered}
 use Rattle.check_node.proofs.PadsSet.{scatter-more, scatter-done}
 use borrow.Author.Needs.{needs}

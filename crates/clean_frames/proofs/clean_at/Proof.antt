@@ -9,7 +9,7 @@ use lib.ListN.{length, getD}
 use Rattle.batch.specs.Codes.{sizeN, sizeK}
 use Rattle.batch.specs.Pairs.{pairsOf}
 use Rattle.batch.proofs.Sizes.{bits-ft8, size-small}
-use Rattle.one_frame.proofs.Place.{part-size}
+use Rattle.lists.proofs.Parts.{part-size}
 use Rattle.batch.proofs.Frames.{place-fits, pair-inside, frame-inside}
 use Rattle.clean.specs.Clean.{frameClean}
 use Rattle.clean_frames.proofs.FrameAt.{frame-at, bits-at}

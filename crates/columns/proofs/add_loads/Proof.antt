@@ -4,7 +4,8 @@ use Prim.Native.Nat.{_-_, _≤_, _<_}
 use native.Mathlib.Omega.{arith}
 use lib.ListN.{length, getD, take, length-set}
 use lib.Seq.{take-all}
-use Rattle.columns.specs.Tables.{AllBelow, Loaded}
+use Rattle.columns.specs.Tables.{Loaded}
+use Rattle.lists.specs.Below.{Below}
 use Rattle.columns.proofs.Marks.{loaded-none, loaded-more, loaded-room}
 use borrow.Author.Needs.{needs}
 use Rattle.columns.proofs.add_loads.Statement.{statement}
@@ -31,7 +32,7 @@ cast-r c = omega (arith, c .shared-slice-known .given (c .before .before .loop .
 -- in a turn: the row that is counted has a load
 row-below : (turn : tie.In-loop Inv-loop μ-loop)
     → getD (turn .before .before .args .column .now) (turn .before .loop .i) 0 < length (turn .before .before .args .loads .now)
-unfolding AllBelow
+unfolding Below
 row-below turn = turn .before .before .pre .0 (turn .before .loop .i) (turn .loop-test .taken)
 
 mul-loads : tie.Need-mul-loads Inv-loop μ-loop

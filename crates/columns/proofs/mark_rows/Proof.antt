@@ -4,7 +4,8 @@ use Prim.Native.Nat.{_-_, _≤_}
 use native.Mathlib.Omega.{arith}
 use lib.ListN.{length, take, length-set}
 use lib.Seq.{take-all}
-use Rattle.columns.specs.Tables.{AllBelow, Marked}
+use Rattle.columns.specs.Tables.{Marked}
+use Rattle.lists.specs.Below.{Below}
 use Rattle.columns.proofs.Marks.{marked-none, marked-more}
 use borrow.Author.Needs.{needs}
 use Rattle.columns.proofs.mark_rows.Statement.{statement}
@@ -29,7 +30,7 @@ cast-r : tie.Need-cast-r Inv-loop μ-loop
 cast-r c = omega (arith, c .shared-slice-known .given (c .before .before .loop .i))
 
 slice-write-marks : tie.Need-slice-write-marks Inv-loop μ-loop
-unfolding AllBelow
+unfolding Below
 slice-write-marks c = omega (arith, c .before .before .before .pre (c .before .before .loop .i) (c .before .loop-test .taken))
 
 add-i : tie.Need-add-i Inv-loop μ-loop

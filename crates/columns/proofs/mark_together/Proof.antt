@@ -4,7 +4,8 @@ use Prim.Native.Nat.{_-_, _*_, _+_, _≤_}
 use native.Mathlib.Omega.{arith}
 use lib.ListN.{length, length-set}
 use Rattle.columns.specs.Tables.{columnsIn}
-use Rattle.columns.proofs.Marks.{Joined, joined-none, joined-more, joined-all, part-below}
+use Rattle.lists.proofs.Below.{below-within}
+use Rattle.columns.proofs.Marks.{Joined, joined-none, joined-more, joined-all}
 use borrow.Author.Needs.{needs}
 use Rattle.columns.proofs.mark_together.Statement.{statement}
 use Rattle.columns.proofs.mark_together.Tie as tie
@@ -44,7 +45,7 @@ mark-column-requires c κs =
     let turn = c .before .before .before in
     let start = turn .before .before .before in
     let at = 3 * turn .loop .j in
-    rw (turn .loop .inv .1 .0, length-set) (part-below _ (3 * start .args .n) at (at + 3 - at) _ (omega arith) (start .pre .1 .0) (start .pre .1 .1))
+    rw (turn .loop .inv .1 .0, length-set) (below-within _ (3 * start .args .n) at (at + 3 - at) _ (omega arith) (start .pre .1 .0) (start .pre .1 .1))
 
 add-j : tie.Need-add-j Inv-loop μ-loop
 add-j c = search needs

@@ -1,20 +1,14 @@
 -- `crc::copy_front` meets its contract. The invariant: dst has the first i bytes of src in front, and is otherwise as it was.
-use mathlib.Core.Path.{_≡_, sym, ap, _∙_}
-use mathlib.Core.List.{List, _++_}
-use Prim.Native.Nat.{ℕ, suc, _-_, _≤_, _<_}
-use native.Mathlib.Nat.{zero-add}
-use native.Mathlib.Numerals.{add-one}
+use mathlib.Core.Path.{_≡_, ap, _∙_}
+use mathlib.Core.List.{_++_}
+use Prim.Native.Nat.{ℕ, _-_, _≤_}
 use native.Mathlib.Omega.{arith}
-use lib.ListN.{length, getD, set, take, drop}
-use lib.Seq.{paste-suc}
+use lib.ListN.{length, take, drop}
 use denote.Ref.{now}
+use Rattle.lists.proofs.Loops.{front-more}
 use borrow.Author.Needs.{needs}
 use Rattle.crc.proofs.copy_front.Statement.{statement}
 use Rattle.crc.proofs.copy_front.Tie as tie
-
--- one byte more: the kit's law of a copy that starts at 0
-front-more : (d s : List ℕ) (j : ℕ) → j < length d → j < length s → set (take j s ++ drop j d) j (getD s j 0) ≡ take (suc j) s ++ drop (suc j) d
-front-more d s j h k = simp zero-add at (paste-suc d 0 s j 0 (rw (zero-add j) h) k)
 
 abbrev Inv-loop : tie.InvT-loop
 Inv-loop src dst₀ n i₀ dst i = (i ≤ n) × (length dst ≡ length dst₀) × (dst ≡ take i src ++ drop i dst₀)
@@ -39,14 +33,8 @@ loop-less c = search needs
 
 loop-again : tie.Need-loop-again Inv-loop μ-loop
 loop-again c =
-    let i = c .before .before .loop .i in
-    let start = c .before .before .before in (
-      search needs,
-      search needs,
-      ap (λ (d : List ℕ). set d i (getD (now (start .args .src)) i 0)) (c .before .before .loop .inv .2)
-          ∙ front-more (now (start .args .dst)) (now (start .args .src)) i (omega arith) (omega arith)
-          ∙ ap (λ (k : ℕ). take k (now (start .args .src)) ++ drop k (now (start .args .dst))) (sym (add-one i)),
-    )
+    let start = c .before .before .before in
+    (search needs, search needs, front-more (now (start .args .src)) 0 (now (start .args .dst)) _ _ (omega arith) (omega arith) (c .before .before .loop .inv .2))
 
 same-length : tie.Need-same-length Inv-loop μ-loop
 same-length c = search needs

@@ -7,7 +7,7 @@ use native.Mathlib.Omega.{arith}
 use lib.Ieee.{nan}
 use lib.ListN.{length, take, drop, length-set}
 use borrow.Author.Needs.{needs}
-use Rattle.softmath.proofs.InPlace.{each-more, each-done}
+use Rattle.lists.proofs.Loops.{each-more, each-done}
 use Rattle.softmath.specs.Functions.{tanh}
 use Rattle.softmath.specs.Single.{_⊘_}
 use Rattle.each_message.proofs.tanh_over.Statement.{statement}

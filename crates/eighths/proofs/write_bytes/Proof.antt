@@ -12,13 +12,14 @@ use borrow.Author.Needs.{needs}
 use Rattle.soft_bytes.specs.Values.{byteOf}
 use Rattle.eighths.specs.Calls.{bytesOf}
 use Rattle.soft_bytes.proofs.Byte.{byte-fits}
-use Rattle.eighths.proofs.Lists.{pass-at, fill-more, fill-done}
+use Rattle.lists.proofs.Loops.{map-more, map-done}
+use Rattle.eighths.proofs.Lists.{pass-at}
 use Rattle.eighths.proofs.write_bytes.Statement.{statement}
 use Rattle.eighths.proofs.write_bytes.Tie as tie
 
 abbrev Inv-loop : tie.InvT-loop
 Inv-loop values positive-is-one bytes₀ i₀ bytes i =
-    (i ≤ length bytes) × (length bytes ≡ length bytes₀) × (take i bytes ≡ bytesOf positive-is-one (take i values))
+    (i ≤ length bytes) × (length bytes ≡ length bytes₀) × (take i bytes ≡ take i (bytesOf positive-is-one values))
 
 abbrev μ-loop : tie.MeasureT-loop
 μ-loop values positive-is-one bytes₀ i₀ bytes i = length bytes₀ - i
@@ -58,7 +59,7 @@ loop-again c =
     let passing = pass-at (a .values .now) now.i (start .pre .1) (omega arith) in (
       simp length-set (omega arith),
       simp length-set (omega arith),
-      fill-more (byteOf (a .positive-is-one)) nan (a .values .now) now.bytes now.i _ (omega arith) (omega arith)
+      map-more (byteOf (a .positive-is-one)) nan (a .values .now) now.bytes now.i _ (omega arith) (omega arith)
           (ap (λ (z : ℤ). toZ w8 (ofZ w8 z)) (c .byte-of .ensures) ∙ toZ-ofZ w8 _ (byte-fits (getD (a .values .now) now.i nan) passing (a .positive-is-one)))
           (now .inv .2),
     )
@@ -71,7 +72,7 @@ unfolding bytesOf
 returns c =
     let a = c .before .before .before .args in
     let now = c .before .loop in
-    fill-done (byteOf (a .positive-is-one)) nan (a .values .now) now.bytes now.i (c .loop-test .left) (omega arith) (now .inv .2)
+    map-done (byteOf (a .positive-is-one)) nan (a .values .now) now.bytes now.i (omega arith) (c .loop-test .left) (now .inv .2)
 
 pub write-bytes-spec : {M : Type 1} → statement M
 write-bytes-spec =

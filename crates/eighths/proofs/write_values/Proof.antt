@@ -9,13 +9,13 @@ use lib.ListN.{length, take, length-set}
 use borrow.Author.Needs.{needs}
 use Rattle.soft_bytes.specs.Values.{valueOf}
 use Rattle.eighths.specs.Calls.{valuesOf}
-use Rattle.eighths.proofs.Lists.{fill-more, fill-done}
+use Rattle.lists.proofs.Loops.{map-more, map-done}
 use Rattle.eighths.proofs.write_values.Statement.{statement}
 use Rattle.eighths.proofs.write_values.Tie as tie
 
 abbrev Inv-loop : tie.InvT-loop
 Inv-loop bytes positive-is-one values₀ i₀ values i =
-    (i ≤ length values) × (length values ≡ length values₀) × (take i values ≡ valuesOf positive-is-one (take i bytes))
+    (i ≤ length values) × (length values ≡ length values₀) × (take i values ≡ take i (valuesOf positive-is-one bytes))
 
 abbrev μ-loop : tie.MeasureT-loop
 μ-loop bytes positive-is-one values₀ i₀ values i = length values₀ - i
@@ -50,7 +50,7 @@ loop-again c =
     let now = turn .before .loop in (
       simp length-set (omega arith),
       simp length-set (omega arith),
-      fill-more (valueOf (a .positive-is-one)) (pos 0) (a .bytes .now) now.values now.i _ (omega arith) (omega arith)
+      map-more (valueOf (a .positive-is-one)) (pos 0) (a .bytes .now) now.values now.i _ (omega arith) (omega arith)
           (c .value-of .ensures ∙ ap (valueOf (a .positive-is-one)) (toZ-ofZ w8 _ (record { sfits = c .before .b .given }))) (now .inv .2),
     )
 
@@ -62,7 +62,7 @@ unfolding valuesOf
 returns c =
     let a = c .before .before .before .args in
     let now = c .before .loop in
-    fill-done (valueOf (a .positive-is-one)) (pos 0) (a .bytes .now) now.values now.i (c .loop-test .left) (omega arith) (now .inv .2)
+    map-done (valueOf (a .positive-is-one)) (pos 0) (a .bytes .now) now.values now.i (omega arith) (c .loop-test .left) (now .inv .2)
 
 pub write-values-spec : {M : Type 1} → statement M
 write-values-spec =

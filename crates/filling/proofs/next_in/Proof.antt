@@ -3,7 +3,7 @@ use mathlib.Core.Logic.{⊎-elim}
 use Prim.Native.Nat.{_-_, _≤_}
 use native.Mathlib.Omega.{arith}
 use lib.ListN.{length}
-use Rattle.tanner.specs.Flat.{Below}
+use Rattle.lists.specs.Below.{Below}
 use Rattle.filling.proofs.Steps.{Scanned, scan-start, scan-unknown, scan-known, scan-one, scan-none}
 use borrow.Author.Needs.{needs}
 use Rattle.filling.proofs.next_in.Statement.{statement}

@@ -4,7 +4,7 @@ use Prim.Native.Nat.{_+_, _-_, _≤_, _<_}
 use native.Mathlib.Omega.{arith}
 use lib.ListN.{length, getD}
 use Rattle.tanner.specs.Flat.{rowsFrom, rowsOf, Within}
-use Rattle.tanner.proofs.Below.{below-part}
+use Rattle.lists.proofs.Below.{below-part}
 use Rattle.filling.specs.Filling.{lowest}
 use Rattle.filling.specs.Calls.{nextOf}
 use Rattle.filling.proofs.Steps.{lowest-found, lowest-more, lowest-done}

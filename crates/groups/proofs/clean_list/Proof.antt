@@ -7,7 +7,7 @@ use native.Mathlib.Nat.{zero-add}
 use native.Mathlib.Omega.{arith}
 use lib.Ieee.{Float}
 use lib.ListN.{length, getD, take, length-set}
-use Rattle.work_area.proofs.Fill.{fill-more, fill-done}
+use Rattle.lists.proofs.Loops.{fill-more, fill-done}
 use Rattle.batch.specs.Pairs.{pairsOf, framesOf}
 use Rattle.clean_frames.specs.CleanFrames.{cleanOf}
 use Rattle.groups.specs.Groups.{cleanFrom}
@@ -77,7 +77,7 @@ loop-again c =
     let right = _∙_ {b = ok at now.j} (c .clean-at .ensures) (place at (c .before .loop-test .taken)) in (
       omega (arith, now.inv.1),
       simp length-set (now.inv.1),
-      fill-more (whole at) false now.clean now.j _ (omega (arith, size at, now.inv.1)) (now.inv.1 ∙ sym (size at)) right now.inv.2,
+      fill-more (whole at) false now.clean now.j _ (omega (arith, size at, now.inv.1)) (omega (arith, now.inv.1)) right now.inv.2,
     )
 
 same-length : tie.Need-same-length Inv-loop μ-loop
@@ -87,7 +87,7 @@ returns : tie.Need-returns Inv-loop μ-loop
 returns c =
     let at = c .before in
     let now = at .loop in
-    fill-done (whole at) false now.clean now.j (omega (arith, size at, now.inv.1, c .loop-test .left)) (now.inv.1 ∙ sym (size at)) now.inv.2
+    fill-done (whole at) false now.clean now.j (omega (arith, size at, now.inv.1, c .loop-test .left)) (omega (arith, c .loop-test .left)) now.inv.2
 
 pub clean-list-spec : {M : Type 1} → statement M
 clean-list-spec =

@@ -5,7 +5,8 @@ use Prim.Native.Nat.{_+_, _-_, _*_, _≤_}
 use native.Mathlib.Omega.{arith}
 use lib.ListN.{drop}
 use Rattle.tanner.specs.Masked.{countMasked}
-use Rattle.tanner.proofs.Steps.{part-below, count-more, count-same, count-done}
+use Rattle.tanner.proofs.Steps.{count-more, count-same, count-done}
+use Rattle.lists.proofs.Below.{below-part}
 use Rattle.ldpc.specs.Rows.{sevens}
 use Rattle.ldpc.proofs.Sevens.{rows-more, rows-done, rows-all}
 use borrow.Author.Needs.{needs}
@@ -37,7 +38,7 @@ part-xor-row-end c = search needs
 xor-row-requires : tie.Need-xor-row-requires Inv-loop μ-loop
 xor-row-requires c κs =
     let l = c .before .before in
-    part-below _ _ (l .loop .a) (l .loop .a + 7) (l .before .before .before .pre .low)
+    below-part _ _ (l .loop .a) (l .loop .a + 7) (l .before .before .before .pre .low)
 
 add-count : tie.Need-add-count Inv-loop μ-loop
 add-count c = search needs

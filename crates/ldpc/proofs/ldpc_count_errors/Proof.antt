@@ -7,7 +7,7 @@ use borrow.Author.Tests.{eq-eqb, ne-eqb}
 use lib.ListN.{drop}
 use Rattle.refusal.specs.Outcome.{accepted}
 use Rattle.tanner.specs.Masked.{syndromeMasked}
-use Rattle.tanner.specs.Flat.{Below}
+use Rattle.lists.specs.Below.{Below}
 use Rattle.code174.specs.Code174.{checks}
 use Rattle.ldpc.proofs.Counting.{bytes-counted}
 use borrow.Author.Needs.{needs}

@@ -2,9 +2,10 @@
 use mathlib.Core.Path.{_≡_, refl, sym}
 use mathlib.Core.List.{_∷_}
 use Prim.Native.Nat.{_+_, _-_, _≤_}
+use native.Mathlib.Numerals.{add-one}
 use native.Mathlib.Omega.{arith}
 use lib.ListN.{length, take, length-set}
-use Rattle.ldpc.proofs.Sevens.{pad-more, pad-done}
+use Rattle.lists.proofs.Loops.{fill-more, fill-done}
 use borrow.Author.Needs.{needs}
 use Rattle.ldpc.proofs.padded_word.Statement.{statement}
 use Rattle.ldpc.proofs.padded_word.Tie as tie
@@ -40,8 +41,7 @@ loop-again c =
     let size : 174 ≡ length h = sym (l .before .pre) in (
       search needs,
       simp length-set (l .loop .inv .1),
-      pad-more h (l .loop .padded) (l .loop .i) _ (omega arith) (omega (arith, l .loop .inv .1, size)) refl
-          (l .loop .inv .2),
+      fill-more (0 ∷ h) 0 (l .loop .padded) (l .loop .i + 1) _ (omega arith) (omega (arith, l .loop .inv .1)) (rw add-one refl) (l .loop .inv .2),
     )
 
 returns : tie.Need-returns Inv-loop μ-loop
@@ -49,7 +49,7 @@ returns c =
     let l = c .before in
     let h = l .before .args .hard .now in
     let size : 174 ≡ length h = sym (l .before .pre) in
-    pad-done h (l .loop .padded) (l .loop .i) (omega (arith, size)) (omega (arith, l .loop .inv .1, size)) (l .loop .inv .2)
+    fill-done (0 ∷ h) 0 (l .loop .padded) (l .loop .i + 1) (omega (arith, size)) (omega (arith, l .loop .inv .1)) (l .loop .inv .2)
 
 pub padded-word-spec : {M : Type 1} → statement M
 padded-word-spec =

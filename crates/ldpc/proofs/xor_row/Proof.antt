@@ -4,7 +4,7 @@ use Prim.Native.Nat.{_-_, _≤_}
 use native.Mathlib.Omega.{arith}
 use lib.ListN.{length, drop}
 use Rattle.tanner.specs.Checks.{xorFrom}
-use Rattle.tanner.specs.Flat.{Below}
+use Rattle.lists.specs.Below.{Below}
 use Rattle.tanner.proofs.Steps.{xor-more, xor-done}
 use borrow.Author.Needs.{needs}
 use Rattle.ldpc.proofs.xor_row.Statement.{statement}

@@ -5,7 +5,7 @@ use Prim.Native.Nat.{_-_, _≤_}
 use native.Mathlib.Omega.{arith}
 use lib.ListN.{length, take, drop, length-set}
 use lib.Seq.{take-length}
-use Rattle.ldpc_codes.proofs.Laid.{copied-more}
+use Rattle.lists.proofs.Loops.{front-more}
 use borrow.Author.Needs.{needs}
 use Rattle.ldpc_codes.proofs.copy_message.Statement.{statement}
 use Rattle.ldpc_codes.proofs.copy_message.Tie as tie
@@ -34,7 +34,7 @@ loop-less c = search needs
 loop-again : tie.Need-loop-again Inv-loop μ-loop
 loop-again c = (
   search needs,
-  (simp length-set (omega arith), copied-more _ _ _ _ (c .before .loop-test .taken) (c .before .before .before .pre) (c .before .before .loop .inv .1 .1)),
+  (simp length-set (omega arith), front-more _ 0 _ _ _ (c .before .loop-test .taken) (omega arith) (c .before .before .loop .inv .1 .1)),
 )
 
 same-length : tie.Need-same-length Inv-loop μ-loop

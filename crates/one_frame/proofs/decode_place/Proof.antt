@@ -14,7 +14,8 @@ use Rattle.batch_refusals.specs.Pairs.{pair, frameOf}
 use Rattle.check_places.specs.Places.{placeOf}
 use Rattle.one_frame.specs.Place.{placed}
 use Rattle.batch_refusals.proofs.Sizes.{size-small}
-use Rattle.one_frame.proofs.Place.{part-size, part-frame, part-placed, lent-are}
+use Rattle.one_frame.proofs.Place.{part-frame, part-placed, lent-are}
+use Rattle.lists.proofs.Parts.{part-size}
 use borrow.Author.Needs.{needs}
 use Rattle.one_frame.proofs.decode_place.Statement.{statement}
 use Rattle.one_frame.proofs.decode_place.Tie as tie

@@ -6,7 +6,7 @@ use lib.ListN.{length, take, length-set}
 use lib.Seq.{take-all}
 use Rattle.bits.specs.Bits.{bits}
 use Rattle.bits.proofs.Digits.{bits-length}
-use Rattle.packing.proofs.Lists.{unpack-more}
+use Rattle.lists.proofs.Loops.{fill-more}
 use borrow.Author.Needs.{needs}
 use Rattle.packing.proofs.write_bits.Statement.{statement}
 use Rattle.packing.proofs.write_bits.Tie as tie
@@ -38,7 +38,7 @@ loop-again c =
     let bytes = turn .before .before .before .args .bytes .now in
     let now = turn .loop in
     let long = bits-length bytes in
-    let more = unpack-more (bits bytes) now.word now.i _ (omega arith) (omega arith) (c .bit-in .ensures) (now .inv .2) in
+    let more = fill-more (bits bytes) 0 now.word now.i _ (omega arith) (omega arith) (c .bit-in .ensures) (now .inv .2) in
     (simp length-set (omega arith), simp length-set (omega arith), more)
 
 same-length : tie.Need-same-length Inv-loop μ-loop

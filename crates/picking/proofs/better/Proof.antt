@@ -3,7 +3,7 @@ use mathlib.Core.Path.{ap}
 use Prim.Native.Nat.{_<_}
 use lib.ListN.{length}
 use native.Mathlib.Omega.{arith}
-use Rattle.picking.specs.Searches.{Below, foundOf}
+use Rattle.picking.specs.Searches.{FoundBelow, foundOf}
 use Rattle.picking.proofs.Searches.{below-row, met-skipped, met-only, met-less, met-other}
 use borrow.Author.Needs.{needs}
 use Rattle.picking.proofs.better.Statement.{statement}
@@ -22,7 +22,7 @@ enum-told : tie.Need-enum-told
 enum-told c = search needs
 
 returns-2 : tie.Need-returns-2
-unfolding Below
+unfolding FoundBelow
 returns-2 c = (met-only _ _ _ (c .before .before .if1 .left) (ap foundOf (c .enum-told .given .1)), search needs)
 
 mul-if2 : tie.Need-mul-if2
@@ -42,13 +42,13 @@ shared-slice-read-if2-2 : tie.Need-shared-slice-read-if2-2
 shared-slice-read-if2-2 c = row-below (c .before .before .before)
 
 returns-3 : tie.Need-returns-3
-unfolding Below
+unfolding FoundBelow
 returns-3 c =
     let d = c .before .before .before .before in
     (met-less _ _ _ (d .before .before .if1 .left) _ (ap foundOf (d .found .given .1)) (c .if2 .taken), search needs)
 
 returns-4 : tie.Need-returns-4
-unfolding Below
+unfolding FoundBelow
 returns-4 c =
     let d = c .before .before .before .before in
     (met-other _ _ _ (d .before .before .if1 .left) _ (ap foundOf (d .found .given .1)) (c .if2 .left), row-below d)

@@ -1,12 +1,12 @@
 -- `picking::search` meets its contract: the two parts are once round the rows. Assumes nothing.
-use Rattle.picking.specs.Searches.{Below}
+use Rattle.picking.specs.Searches.{FoundBelow}
 use Rattle.picking.proofs.Searches.{parts-round}
 use borrow.Author.Needs.{needs}
 use Rattle.picking.proofs.search.Statement.{statement}
 use Rattle.picking.proofs.search.Tie as tie
 
 search-part-requires : tie.Need-search-part-requires
-unfolding Below
+unfolding FoundBelow
 search-part-requires c κs = search needs
 
 search-part-requires-2 : tie.Need-search-part-requires-2

@@ -5,7 +5,7 @@ use Prim.Native.Nat.{_-_}
 use lib.ListN.{length}
 use Rattle.columns.specs.Tables.{flagAt}
 use Rattle.picking.specs.Picks.{upFrom}
-use Rattle.picking.specs.Searches.{Below, foundOf, loadAt, metRows}
+use Rattle.picking.specs.Searches.{FoundBelow, foundOf, loadAt, metRows}
 use Rattle.picking.proofs.Searches.{part-more, part-stops, part-done}
 use borrow.Author.Needs.{needs}
 use Rattle.picking.proofs.search_part.Statement.{statement}
@@ -14,7 +14,7 @@ use Rattle.picking.proofs.search_part.Tie as tie
 abbrev Inv-loop : tie.InvT-loop
 Inv-loop loads marks from to found₀ r₀ found r =
     let met = metRows (loadAt loads) (flagAt marks) in
-    (Below (length loads) (foundOf found)) × (met (upFrom r (to - r)) (foundOf found) ≡ met (upFrom from (to - from)) (foundOf found₀))
+    (FoundBelow (length loads) (foundOf found)) × (met (upFrom r (to - r)) (foundOf found) ≡ met (upFrom from (to - from)) (foundOf found₀))
 
 abbrev μ-loop : tie.MeasureT-loop
 μ-loop loads marks from to found₀ r₀ found r = to - r

@@ -5,7 +5,7 @@ use Prim.Native.Nat.{ℕ, _+_, _-_, _≤_}
 use native.Mathlib.Omega.{arith}
 use lib.ListN.{length, getD, take, drop}
 use Rattle.tanner.specs.Flat.{Within, rowsOf}
-use Rattle.tanner.proofs.Below.{below-part}
+use Rattle.lists.proofs.Below.{below-part}
 use Rattle.text.specs.Text.{field}
 use Rattle.text.proofs.Put.{then, room-left}
 use Rattle.reason_lines.specs.Lines.{checkWord, entries, checkLine}

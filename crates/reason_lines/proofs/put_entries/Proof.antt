@@ -5,7 +5,7 @@ use mathlib.Core.List.{List, _++_}
 use Prim.Native.Nat.{ℕ, _+_, _-_, _≤_}
 use native.Mathlib.Omega.{arith}
 use lib.ListN.{length, getD, drop, length-append}
-use Rattle.tanner.specs.Flat.{Below}
+use Rattle.lists.specs.Below.{Below}
 use Rattle.text.proofs.Put.{Left, left-all, left-less, left-none}
 use Rattle.reason_lines.specs.Lines.{pairText, entries}
 use Rattle.reason_lines.proofs.Steps.{entries-more, entries-none}

@@ -5,8 +5,9 @@ use Prim.Native.Nat.{_+_, _*_, _≤_}
 use native.Mathlib.Omega.{arith}
 use lib.ListN.{length}
 use borrow.Author.Needs.{needs}
+use Rattle.lists.proofs.Parts.{part-size}
 use Rattle.slot_minima.specs.Cells.{cellIn}
-use Rattle.slot_minima.proofs.CellColumns.{room, room-more, part-length, AnsweredFrom, answered-length, answers-none, answers-more, answers-done}
+use Rattle.slot_minima.proofs.CellColumns.{room, room-more, AnsweredFrom, answered-length, answers-none, answers-more, answers-done}
 use Rattle.softmath.specs.CheckNode.{factorOf}
 use Rattle.slot_minima.proofs.answer_each.Statement.{statement}
 use Rattle.slot_minima.proofs.answer_each.Tie as tie
@@ -41,7 +42,7 @@ part-answer-in-end : tie.Need-part-answer-in-end Inv-loop μ-loop
 part-answer-in-end c = omega (arith, within c)
 
 answer-in-requires : tie.Need-answer-in-requires Inv-loop μ-loop
-answer-in-requires c κs = (part-length _ _ _ (within (c .before)), omega arith)
+answer-in-requires c κs = (part-size _ _ _ (within (c .before)), omega arith)
 
 sub-left : tie.Need-sub-left Inv-loop μ-loop
 sub-left c = search needs

@@ -5,8 +5,9 @@ use Prim.Native.Nat.{_+_, _*_, _≤_}
 use native.Mathlib.Omega.{arith}
 use lib.ListN.{length}
 use borrow.Author.Needs.{needs}
+use Rattle.lists.proofs.Parts.{part-size}
 use Rattle.slot_minima.specs.Cells.{cellIn}
-use Rattle.slot_minima.proofs.CellColumns.{room, room-more, part-length, NotedFrom, columns-none, columns-more, columns-done}
+use Rattle.slot_minima.proofs.CellColumns.{room, room-more, NotedFrom, columns-none, columns-more, columns-done}
 use Rattle.slot_minima.proofs.note_each.Statement.{statement}
 use Rattle.slot_minima.proofs.note_each.Tie as tie
 
@@ -43,7 +44,7 @@ part-note-in-end c = omega (arith, within c)
 note-in-requires : tie.Need-note-in-requires Inv-loop μ-loop
 note-in-requires c κs =
     let turn = c .before .before in
-    (part-length _ _ _ (within turn), omega arith)
+    (part-size _ _ _ (within turn), omega arith)
 
 sub-left : tie.Need-sub-left Inv-loop μ-loop
 sub-left c = search needs

@@ -1,18 +1,23 @@
--- `slot_products::copy_slot` meets its contract. The invariant: what is passed, with the rest of the slot, is the slot. Assumes nothing.
-use mathlib.Core.Path.{_≡_}
-use mathlib.Core.List.{_++_}
+-- `slot_products::copy_slot` meets its contract. The invariant: what is written so far is the slot's front. Assumes nothing.
+use mathlib.Core.Path.{_≡_, refl}
 use Prim.Native.Nat.{_-_, _≤_}
-use lib.ListN.{length, take, drop, length-set}
+use native.Mathlib.Omega.{arith}
+use mathlib.Core.List.{List}
+use lib.Ieee.{Float, nan}
+use lib.ListN.{length, take, length-set}
+use Rattle.lists.proofs.Loops.{fill-more, fill-done}
 use borrow.Author.Needs.{needs}
-use Rattle.slot_products.proofs.ProductLoops.{copy-more, copy-done}
 use Rattle.slot_products.proofs.copy_slot.Statement.{statement}
 use Rattle.slot_products.proofs.copy_slot.Tie as tie
 
 abbrev Inv-loop : tie.InvT-loop
-Inv-loop out₀ slot n c₀ out c = (c ≤ n) × (n ≡ length slot) × (length out ≡ n) × (take c out ++ drop c slot ≡ slot)
+Inv-loop out₀ slot n c₀ out c = (c ≤ n) × (n ≡ length slot) × (length out ≡ n) × (take c out ≡ take c slot)
 
 abbrev μ-loop : tie.MeasureT-loop
 μ-loop out₀ slot n c₀ out c = n - c
+
+abbrev slot : tie.At-loop Inv-loop μ-loop → List Float
+slot c = c .before .before .args .slot .now
 
 returns : tie.Need-returns Inv-loop μ-loop
 returns c = absurd (c .if1 .taken (c .before .pre))
@@ -40,15 +45,17 @@ loop-less c = search needs
 
 loop-again : tie.Need-loop-again Inv-loop μ-loop
 loop-again c =
-    let turn = c .before in
-    let inv = turn .before .loop .inv in
-    (search needs, search needs, simp length-set (inv .2), copy-more _ _ _ _ _ (inv .1) (inv .2) (turn .loop-test .taken) (inv .3))
+    let at = c .before .before in
+    let inv = at .loop .inv in
+    (search needs, search needs, simp length-set (inv .2), fill-more (slot at) nan (at .loop .out) (at .loop .c) _ (omega arith) (omega arith) refl (inv .3))
 
 same-length : tie.Need-same-length Inv-loop μ-loop
 same-length c = search needs
 
 returns-2 : tie.Need-returns-2 Inv-loop μ-loop
-returns-2 c = copy-done _ _ _ _ _ (c .before .loop .inv .1) (c .before .loop .inv .2) (c .loop-test .left) (c .before .loop .inv .3)
+returns-2 c =
+    let at = c .before in
+    fill-done (slot at) nan (at .loop .out) (at .loop .c) (omega arith) (omega arith) (at .loop .inv .3)
 
 pub copy-slot-spec : {M : Type 1} → statement M
 copy-slot-spec =

@@ -1,8 +1,8 @@
 -- `stair_parity::fill_rows` meets its contract. The invariant: filling in the rows that are left gives the whole; the bit before is carried along. Assumes
 -- nothing.
 use mathlib.Core.Path.{_≡_, refl}
-use Prim.Native.Nat.{ℕ, _+_, _-_, _*_, _≤_, _<_}
-use native.Mathlib.Nat.{mul-le-mul-right}
+use Prim.Native.Nat.{_+_, _-_, _*_, _≤_, _<_}
+use native.Mathlib.Nat.{le-add-right, mul-le-mul-right}
 use native.Mathlib.Omega.{arith}
 use lib.ListN.{length, length-set}
 use Rattle.staircase.specs.Shape.{stairRows}
@@ -21,9 +21,6 @@ Inv-loop width k first n taps codeword₀ end before₀ a₀ i₀ codeword befor
 
 abbrev μ-loop : tie.MeasureT-loop
 μ-loop width k first n taps codeword₀ end before₀ a₀ i₀ codeword before a i = first + n - i
-
-first-fits : (first n : ℕ) → first ≤ first + n
-first-fits first n = omega arith
 
 -- in a turn: the row lies within the table
 row : (c : tie.In-loop Inv-loop μ-loop) → let s = c .before .before .before .before .before .before in
@@ -46,7 +43,7 @@ bit-before-requires : tie.Need-bit-before-requires Inv-loop μ-loop
 bit-before-requires c κs = let s = c .before .before .before in omega (arith, s .pre .room)
 
 mul-a : tie.Need-mul-a Inv-loop μ-loop
-mul-a c = let s = c .before .before .before .before in omega (arith, s .pre .size, mul-le-mul-right (s .args .width) (first-fits (s .args .first) (s .args .n)))
+mul-a c = let s = c .before .before .before .before in omega (arith, s .pre .size, mul-le-mul-right (s .args .width) (le-add-right (s .args .first) (s .args .n)))
 
 loop-holds : tie.Need-loop-holds Inv-loop μ-loop
 loop-holds c =

@@ -8,7 +8,7 @@ use lib.ListN.{length, getD, take, drop}
 use Rattle.batch.specs.Codes.{sizeN}
 use Rattle.batch.specs.Pairs.{pairsOf, framesOf}
 use Rattle.batch.proofs.Sizes.{size-small}
-use Rattle.one_frame.proofs.Place.{part-size}
+use Rattle.lists.proofs.Parts.{part-size}
 use Rattle.batch.proofs.Frames.{pair-inside, frame-inside}
 use Rattle.clean_frames.proofs.FrameAt.{frame-at}
 use Rattle.batch_input.specs.Input.{codeOf}

@@ -4,7 +4,7 @@ use Prim.Native.Nat.{_-_, _≤_}
 use native.Mathlib.Omega.{arith}
 use lib.ListN.{length, take, replicate, length-set, length-replicate, getD-replicate}
 use Rattle.softmath.specs.Single.{zero32}
-use Rattle.work_area.proofs.Fill.{fill-more, fill-done}
+use Rattle.lists.proofs.Loops.{fill-more, fill-done}
 use borrow.Author.Needs.{needs}
 use Rattle.work_area.proofs.clear.Statement.{statement}
 use Rattle.work_area.proofs.clear.Tie as tie
@@ -36,7 +36,7 @@ loop-again c =
     let now = c .before .loop in (
       omega arith,
       simp length-set (omega arith),
-      fill-more (replicate n zero32) zero32 now.part now.i _ (simp length-replicate (omega arith)) (simp length-replicate (omega arith)) (sym
+      fill-more (replicate n zero32) zero32 now.part now.i _ (simp length-replicate (omega arith)) (omega arith) (sym
           (getD-replicate n now.i zero32 zero32 (omega arith))) now.inv.2,
     )
 
@@ -46,8 +46,8 @@ same-length c = search needs
 returns : tie.Need-returns Inv-loop μ-loop
 returns c =
     let n = length (c .before .before .args .part .now) in
-    fill-done (replicate n zero32) zero32 (c .before .loop .part) (c .before .loop .i) (simp length-replicate (omega arith))
-    (simp length-replicate (omega arith)) (c .before .loop .inv .2)
+    fill-done (replicate n zero32) zero32 (c .before .loop .part) (c .before .loop .i) (simp length-replicate (omega arith)) (omega arith)
+    (c .before .loop .inv .2)
 
 pub clear-spec : {M : Type 1} → statement M
 clear-spec =

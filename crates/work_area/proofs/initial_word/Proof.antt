@@ -1,12 +1,12 @@
 -- `work_area::initial_word` meets its contract. The invariant: what is written so far is the front of the word. Assumes nothing.
-use mathlib.Core.Path.{_≡_, sym, _∙_}
+use mathlib.Core.Path.{_≡_}
 use mathlib.Core.List.{map}
 use Prim.Native.Nat.{_-_, _≤_}
 use native.Mathlib.Omega.{arith}
 use lib.Ieee.{nan}
-use lib.ListN.{length, take, length-set, length-map, List·getD-map}
+use lib.ListN.{length, take, length-set}
 use Rattle.softmath.specs.Functions.{decide}
-use Rattle.work_area.proofs.Fill.{fill-more, fill-done}
+use Rattle.lists.proofs.Loops.{map-more, map-done}
 use borrow.Author.Needs.{needs}
 use Rattle.work_area.proofs.initial_word.Statement.{statement}
 use Rattle.work_area.proofs.initial_word.Tie as tie
@@ -44,16 +44,16 @@ loop-again c =
     let now = c .before .before .before .loop in (
       omega arith,
       simp length-set (omega arith),
-      fill-more (map decide llr) (decide nan) now.hard now.i _ (simp length-map (omega arith)) (simp length-map (omega arith)) (c .decide .ensures ∙ sym
-          (List·getD-map decide llr now.i nan)) now.inv.2,
+      map-more decide nan llr now.hard now.i _ (omega arith) (omega arith) (c .decide .ensures) now.inv.2,
     )
 
 same-length : tie.Need-same-length Inv-loop μ-loop
 same-length c = search needs
 
 returns : tie.Need-returns Inv-loop μ-loop
-returns c = fill-done (map decide (c .before .before .before .before .args .llr .now)) (decide nan) (c .before .loop .hard) (c .before .loop .i)
-    (simp length-map (omega arith)) (simp length-map (omega arith)) (c .before .loop .inv .2)
+returns c =
+    map-done decide nan (c .before .before .before .before .args .llr .now) (c .before .loop .hard) (c .before .loop .i) (omega arith) (omega arith)
+    (c .before .loop .inv .2)
 
 pub initial-word-spec : {M : Type 1} → statement M
 initial-word-spec =

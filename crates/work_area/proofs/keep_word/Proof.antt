@@ -4,7 +4,7 @@ use Prim.Native.Nat.{_-_, _≤_}
 use native.Mathlib.Omega.{arith}
 use lib.ListN.{length, take, length-set}
 use lib.Seq.{length-take-le, getD-take}
-use Rattle.work_area.proofs.Fill.{fill-more, fill-done}
+use Rattle.lists.proofs.Loops.{fill-more, fill-done}
 use borrow.Author.Needs.{needs}
 use Rattle.work_area.proofs.keep_word.Statement.{statement}
 use Rattle.work_area.proofs.keep_word.Tie as tie

@@ -1,22 +1,12 @@
 -- Laws of loops over a list, whatever is computed: by splitting the list at the loop's index. Assumes nothing.
-use mathlib.Core.Path.{_≡_, refl, sym, ap, _∙_}
+use mathlib.Core.Path.{_≡_, refl, sym, _∙_}
 use mathlib.Core.List.{List, [], _∷_, _++_, map, append-assoc, append-nil}
-use Prim.Native.Nat.{ℕ, suc, _+_, _-_, _≤_, _<_}
-use native.Mathlib.Omega.{arith}
+use Prim.Native.Nat.{ℕ, suc, _+_, _≤_, _<_}
+use native.Mathlib.Nat.{zero-add}
 use native.Mathlib.Numerals.{add-one}
-use lib.ListN.{length, take, drop, getD, set, length-drop, drop-of-length-le}
-use lib.Seq.{take-suc, take-suc-set, drop-set-lt, drop-cons, take-all}
-
--- the part of a list from n to its end
-pub rest-whole : {A : Type 0} (l : List A) (n : ℕ) → take (length l - n) (drop n l) ≡ drop n l
-rest-whole l n = take-all (length l - n) (drop n l) (simp length-drop (omega arith))
-
--- a part that is the whole: it has as many elements as the literal that cuts it says
-pub front-whole : {A : Type 0} (n : ℕ) (l : List A) → length l ≡ n → take n l ≡ l
-front-whole n l e = take-all n l (omega (arith, e))
-
-pub front-length : {A : Type 0} (n : ℕ) (l : List A) → length l ≡ n → n ≡ length (take n l)
-front-length n l e = sym (ap length (front-whole n l e) ∙ e)
+use native.Mathlib.Omega.{arith}
+use lib.ListN.{length, take, drop, getD, set, drop-of-length-le, length-map, List·getD-map}
+use lib.Seq.{take-suc, take-suc-set, drop-set-lt, drop-cons, take-all, paste-suc}
 
 -- A loop that reads each element: G says what is left to do from the state s with the elements that are left.
 module _ {A S R : Type 0} (G : S → List A → R) (next : S → A → List A → S) (step : (s : S) (x : A) (xs : List A)
@@ -47,12 +37,25 @@ module _ {A : Type 0} (f : A → A) (d : A) where
   pub each-done : (l r : List A) (i : ℕ) → length l ≤ i → take i l ++ map f (drop i l) ≡ r → l ≡ r
   each-done l r i h k = place-done (λ (s : Unit {0}) (xs : List A). map f xs) (λ s x xs. f x) (λ s x. s) (λ s x xs. refl) d (λ s. refl) l r i tt h k
 
--- A loop that copies the elements of l to the front of r.
-module _ {A : Type 0} (l r : List A) (i : ℕ) where
-  pub copy-more : (d : A) → i < length l → i < length r → take i r ≡ take i l → take (i + 1) (set r i (getD l i d)) ≡ take (i + 1) l
-  copy-more d h hr k = rw (add-one, take-suc-set r i (getD l i d) hr, take-suc l i d h, k) refl
+-- A loop that fills another list from the front with the elements of one: what is written so far is its front.
+module _ {A : Type 0} (src : List A) (d : A) where
+  pub fill-more : (out : List A) (i : ℕ) (v : A) → i < length src → i < length out → v ≡ getD src i d → take i out ≡ take i src
+      → take (i + 1) (set out i v) ≡ take (i + 1) src
+  fill-more out i v h k e t = rw (add-one, take-suc-set out i v k, take-suc src i d h, t, e)
 
-  pub copy-done : length l ≤ i → i ≤ length l → take i r ≡ take i l → take (length l) r ≡ l
-  copy-done h g k =
-      let e : length l ≡ i = omega (arith, h, g) in
-      rw e (k ∙ take-all i l h)
+  pub fill-done : (out : List A) (i : ℕ) → length src ≤ i → length out ≤ i → take i out ≡ take i src → out ≡ src
+  fill-done out i h k t = sym (take-all i out k) ∙ t ∙ take-all i src h
+
+  -- the same where the list to be filled may be longer: what lies behind stays as it was
+  pub front-more : (old out : List A) (i : ℕ) → i < length src → i < length old → out ≡ take i src ++ drop i old
+      → set out i (getD src i d) ≡ take (i + 1) src ++ drop (i + 1) old
+  front-more old out i h k e = rw (e, add-one) (simp zero-add at (paste-suc old 0 src i d (rw (zero-add i) k) h))
+
+-- a list filled with a function of each element of one
+module _ {A B : Type 0} (f : A → B) (d : A) where
+  pub map-more : (l : List A) (out : List B) (i : ℕ) (v : B) → i < length l → i < length out → v ≡ f (getD l i d) → take i out ≡ take i (map f l)
+      → take (i + 1) (set out i v) ≡ take (i + 1) (map f l)
+  map-more l out i v h k e = fill-more (map f l) (f d) out i v (simp length-map h) k (e ∙ sym (List·getD-map f l i d))
+
+  pub map-done : (l : List A) (out : List B) (i : ℕ) → length l ≤ i → length out ≤ i → take i out ≡ take i (map f l) → out ≡ map f l
+  map-done l out i h = fill-done (map f l) (f d) out i (simp length-map h)

@@ -1,10 +1,12 @@
 -- Lists whose entries are all below a number: the empty one, one entry more, a part, two behind each other, a larger number. Assumes nothing.
+use mathlib.Core.Path.{_≡_}
 use mathlib.Core.List.{List, [], _∷_, _++_}
 use Prim.Native.Nat.{ℕ, zero, suc, _+_, _-_, _<_, _≤_}
 use native.Mathlib.Omega.{arith}
-use lib.ListN.{length, getD, take, drop, length-take, length-drop, length-append, List·getD-append}
-use lib.Seq.{getD-take, getD-drop, getD-append-add}
-use Rattle.tanner.specs.Flat.{Below}
+use native.Mathlib.Decide.{decLt}
+use lib.ListN.{length, getD, take, drop, set, length-take, length-drop, length-append, List·getD-append}
+use lib.Seq.{getD-take, getD-drop, getD-append-add, getD-set-same, getD-set-other}
+use Rattle.lists.specs.Below.{Below}
 
 module _ (n : ℕ) where
   pub below-none : Below n []
@@ -48,6 +50,29 @@ module _ (n : ℕ) where
 
   pub below-part : (l : List ℕ) (a b : ℕ) → Below n l → Below n (take (b - a) (drop a l))
   below-part l a b low = below-take (b - a) (drop a l) (below-drop a l low)
+
+  -- a part of a front of l
+  pub below-within : (k a b : ℕ) (l : List ℕ) → a + b ≤ k → k ≤ length l → Below n (take k l) → Below n (take b (drop a l))
+  unfolding Below
+  below-within k a b l fits long low i h =
+      let p : i < b = omega (arith, simp length-take at h) in
+      let q : a + i < length (take k l) = simp length-take (omega arith) in
+      rw (getD-take b (drop a l) i 0 p, getD-drop a l i 0, ← getD-take k l (a + i) 0 (omega arith)) (low (a + i) q)
+
+  -- a front with one entry more
+  pub below-set : (i x : ℕ) (l : List ℕ) → i < length l → x < n → Below n (take i l) → Below n (take (i + 1) (set l i x))
+  unfolding Below
+  below-set i x l h small low j k =
+      let s : j < i + 1 = omega (arith, simp length-take at k) in
+      last (decLt j i)
+    where
+      last : Dec (j < i) → getD (take (i + 1) (set l i x)) j 0 < n
+      last (yes p) =
+          rw (getD-take (i + 1) (set l i x) j 0 (omega arith), getD-set-other l i j x 0 (λ e. omega arith), ← getD-take i l j 0 p)
+          (low j (simp length-take (omega arith)))
+      last (no p) =
+          let e : j ≡ i = omega (arith, simp length-take at k) in
+          rw (e, getD-take (i + 1) (set l i x) i 0 (omega arith), getD-set-same l i x 0 h) small
 
   pub below-less : (m : ℕ) (l : List ℕ) → n ≤ m → Below n l → Below m l
   unfolding Below
