@@ -39,10 +39,6 @@ checks-low = rw check-bits at positions-low
 pub laid : rowsOf checkStart checkBits ≡ checks
 laid = ap₂ (λ (s f : List ℕ). rowsOf s f) check-start check-bits ∙ rows-laid checks
 
-pub size : length checkBits ≡ 522
-unfolding checkBits
-size = refl
-
 pub many : length checks ≡ 83
 unfolding checks rowsOfSeven numRows nm
 many = refl

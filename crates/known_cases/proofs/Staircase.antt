@@ -17,12 +17,13 @@ use Rattle.staircase.specs.Staircase.{taps, parityEntries, checkRow, checkRows}
 use Rattle.ldpc_codes.specs.Calls.{syndromeBy}
 use Rattle.staircase.specs.Codes.{codeOf, checks}
 use Rattle.slots.specs.Layout.{threes}
+use Rattle.staircase.proofs.Laid.{checks-right}
 use Rattle.n512r12.proofs.Rows.{rows0}
 use Rattle.n576r23.proofs.Rows.{rows1}
 use Rattle.n512r34.proofs.Rows.{rows2}
-use Rattle.n512r12.proofs.Tables.{checks-right0}
-use Rattle.n576r23.proofs.Tables.{checks-right1}
-use Rattle.n512r34.proofs.Tables.{checks-right2}
+use Rattle.n512r12.proofs.Rows.{built0}
+use Rattle.n576r23.proofs.Rows.{built1}
+use Rattle.n512r34.proofs.Rows.{built2}
 use Rattle.known_cases.specs.Cases.{alone}
 
 zero-getD : (n i : ℕ) → getD (replicate {A = ℕ} n 0) i 0 ≡ 0
@@ -100,13 +101,13 @@ pub record Cases (code k m : ℕ) : Type 0 where
   pub byteTwo : syndromeBy code (alone 0 2 (k + m - 1)) .count ≡ 0
 
 odd0 : (p : ℕ) → oddRows (checks (codeOf 0)) p ≡ oddRows (checkRows 256 (threes rows0) 0 256) p
-odd0 p = rw checks-right0
+odd0 p = rw (checks-right built0)
 
 odd1 : (p : ℕ) → oddRows (checks (codeOf 1)) p ≡ oddRows (checkRows 384 (threes rows1) 0 192) p
-odd1 p = rw checks-right1
+odd1 p = rw (checks-right built1)
 
 odd2 : (p : ℕ) → oddRows (checks (codeOf 2)) p ≡ oddRows (checkRows 384 (threes rows2) 0 128) p
-odd2 p = rw checks-right2
+odd2 p = rw (checks-right built2)
 
 pub cases0 : Cases 0 256 256
 unfolding oddRows times checkRows checkRow taps parityEntries holds rows0 threes

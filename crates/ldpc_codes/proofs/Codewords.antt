@@ -131,11 +131,6 @@ module _ (k : ℕ) (cols : List (List ℕ)) (size : length cols ≤ k) (message 
   parity-bits-below zero i p = below-none 2
   parity-bits-below (suc n) i p = below-cons 2 _ _ (omega arith) (parity-bits-below n (suc i) _)
 
-  parity-bits-length : (n i p : ℕ) → length (parityBits cols message i n p) ≡ n
-  unfolding parityBits
-  parity-bits-length zero i p = refl
-  parity-bits-length (suc n) i p = ap suc (parity-bits-length n (suc i) _)
-
 -- ---- the theorem: for any message columns, a word of N bits has count 0 exactly when it is the encoding of its first K bits
 module _ (k m : ℕ) (cols : List (List ℕ)) (size : length cols ≤ k) where
   pub count-encoded : (message : Word) → length message ≡ k → Below 2 message → count (checksOf k m cols) (encoded m cols message) ≡ 0

@@ -1,18 +1,19 @@
 -- The rows of N512R12's message columns, which are what the construction gives, with no pick relaxed: its quick form, which agrees with the definition, is
 -- computed here.
-use mathlib.Core.Path.{_≡_, refl, sym, ap, _∙_}
-use mathlib.Core.List.{List, [], _∷_, reverse}
+use mathlib.Core.Path.{refl, sym, _∙_}
+use mathlib.Core.List.{List, [], _∷_}
 use Prim.Native.Nat.{ℕ}
 use native.Mathlib.Omega.{arith}
 use Rattle.xorshift.specs.Draw.{draw, xor, mixed}
 use Rattle.columns.specs.Rows.{holds, sorted, insert}
 use Rattle.picking.specs.Picks.{settled, upFrom, firstOutside}
-use Rattle.construction.specs.Columns.{Made, finished, made, rowsOf, laidBefore}
+use Rattle.construction.specs.Columns.{finished, laidBefore}
 use Rattle.construction.specs.Quick.{marked, markedIf, markedBy, marksOf, lessOf, met, scan, foundIn, quickSearch, quickPick, loaded, quickOnePick, quickPicks}
 use Rattle.construction.specs.Quick.{quickFinished, quickColumn, quickColumns, quick}
-use Rattle.construction.specs.Codes.{n512r12, messageRows, relaxedPicks}
+use Rattle.construction.specs.Codes.{n512r12}
 use Rattle.construction.proofs.Agree.{agree}
 use Rattle.slots.specs.Layout.{threes}
+use Rattle.staircase.proofs.Laid.{Built}
 
 unfoldable pub rows0 : List ℕ
 rows0 =
@@ -48,18 +49,7 @@ rows0 =
     ∷ 0 ∷ 105 ∷ 240 ∷ 16 ∷ 151 ∷ 154 ∷ 88 ∷ 242 ∷ 243 ∷ 155 ∷ 207 ∷ 227 ∷ 1 ∷ 56 ∷ 194 ∷ 17 ∷ 64 ∷ 159 ∷ 63 ∷ 67 ∷ 69 ∷ 73 ∷ 160 ∷ 183 ∷ 74 ∷
     161 ∷ 195 ∷ 184 ∷ 185 ∷ 197 ∷ 79 ∷ 200 ∷ 201 ∷ 81 ∷ 84 ∷ 208 ∷ 85 ∷ 86 ∷ 89 ∷ []
 
-made0 : made 256 256 0x4c44504335313200 ≡ record { state = 0xac0ce9660e6b49ae; columns = reverse (threes rows0); relaxed = 0 }
+pub built0 : Built n512r12 rows0
 unfolding draw xor mixed holds settled sorted insert upFrom firstOutside marked markedIf markedBy marksOf lessOf met scan foundIn quickSearch quickPick loaded
-    quickFinished finished quickOnePick quickPicks quickColumn quickColumns quick rows0 threes
-made0 = sym (agree 256 256 0x4c44504335313200 (omega arith)) ∙ refl
-
-pub made-right0 : made 256 256 0x4c44504335313200 .columns ≡ reverse (threes rows0)
-made-right0 = ap (λ (g : Made). g .columns) made0
-
--- no pick is relaxed
-pub no-relaxed0 : relaxedPicks n512r12 ≡ 0
-no-relaxed0 = ap (λ (g : Made). g .relaxed) made0
-
-pub rows-right0 : rows0 ≡ messageRows n512r12
-unfolding rowsOf laidBefore rows0 threes
-rows-right0 = sym (ap (λ (cs : List (List ℕ)). laidBefore cs []) made-right0)
+    quickFinished finished quickOnePick quickPicks quickColumn quickColumns quick laidBefore rows0 threes
+built0 = record { state = 0xac0ce9660e6b49ae; given = sym (agree 256 256 0x4c44504335313200 (omega arith)) ∙ refl; flat = refl }

@@ -1,18 +1,17 @@
 -- The tables of N512R12, which hold its checks and the places of its message bits' edges: computed from the rows of its message columns.
 -- The lists are printed by tools/code_tables.py (`list n512r12 NAME`); what is proved of them does not rest on it.
-use mathlib.Core.Path.{_≡_, refl, sym, ap}
-use mathlib.Core.List.{List, [], _∷_, map, reverse}
-use Prim.Native.Nat.{ℕ, _<_}
-use lib.ListN.{drop}
+use mathlib.Core.Path.{refl}
+use mathlib.Core.List.{List, [], _∷_}
+use Prim.Native.Nat.{ℕ}
 use Rattle.columns.specs.Rows.{holds}
 use Rattle.construction.specs.Codes.{n512r12}
-use Rattle.tanner.specs.Flat.{joined, ends, offsets, places, edgesFrom}
+use Rattle.tanner.specs.Flat.{joined, ends, places, edgesFrom}
 use Rattle.staircase.specs.Staircase.{taps, parityEntries, checkRow, checkRows}
-use Rattle.staircase.specs.Shape.{tapsAt, stairRows, stairs}
-use Rattle.staircase.specs.Codes.{columns, checks}
-use Rattle.slots.specs.Layout.{slotEdges, threeAt, threes}
-use Rattle.slots.proofs.Tables.{slotBy, table-edges}
-use Rattle.n512r12.proofs.Rows.{rows0, made-right0}
+use Rattle.staircase.specs.Shape.{tapsAt, stairRows}
+use Rattle.slots.specs.Layout.{threes}
+use Rattle.slots.proofs.Tables.{slotBy}
+use Rattle.staircase.proofs.Laid.{Laid}
+use Rattle.n512r12.proofs.Rows.{rows0, built0}
 
 unfoldable pub checkStarts0 : List ℕ
 checkStarts0 =
@@ -153,31 +152,6 @@ places0 =
     719 ∷ 739 ∷ 513 ∷ 568 ∷ 706 ∷ 529 ∷ 576 ∷ 671 ∷ 575 ∷ 579 ∷ 581 ∷ 585 ∷ 672 ∷ 695 ∷ 586 ∷ 673 ∷ 707 ∷ 696 ∷ 697 ∷ 709 ∷ 591 ∷ 712 ∷ 713 ∷ 593 ∷
     596 ∷ 720 ∷ 597 ∷ 598 ∷ 601 ∷ []
 
-columns-right0 : columns n512r12 ≡ threes rows0
-unfolding columns rows0 threes
-columns-right0 = ap reverse made-right0
-
-pub checks-right0 : checks n512r12 ≡ checkRows 256 (threes rows0) 0 256
-unfolding checks
-checks-right0 = rw columns-right0
-
-pub check-bits-right0 : checkBits0 ≡ joined (checks n512r12)
-unfolding checkBits0 joined checkRows checkRow taps parityEntries holds rows0 threes
-check-bits-right0 = sym (ap joined checks-right0)
-
-pub check-starts-right0 : checkStarts0 ≡ offsets (checks n512r12)
-unfolding checkStarts0 ends checkRows checkRow taps parityEntries holds rows0 threes
-check-starts-right0 = sym (ap offsets checks-right0)
-
--- the rows by their shape
-pub taps-right0 : stairs 256 3 256 taps0 ≡ checks n512r12
-unfolding stairRows tapsAt taps0 checkRows checkRow taps parityEntries holds rows0 threes
-taps-right0 = sym checks-right0
-
-places-computed0 : threes places0 ≡ map (map (slotBy 256 0 0 (drop 1 checkStarts0))) (edgesFrom 0 256 checkBits0)
-unfolding places0 threes slotBy checkStarts0 edgesFrom places checkBits0
-places-computed0 = refl
-
--- the places by slots of each message bit's edges
-pub places-right0 : (b : ℕ) → b < 256 → threeAt places0 b ≡ slotEdges (checks n512r12) 256 b
-places-right0 = table-edges (checks n512r12) 256 checkStarts0 check-starts-right0 256 checkBits0 places0 check-bits-right0 places-computed0
+pub laid0 : Laid n512r12 rows0 checkStarts0 checkBits0 3 taps0 places0
+unfolding joined ends checkRows checkRow taps parityEntries holds rows0 threes checkStarts0 checkBits0 stairRows tapsAt taps0 slotBy edgesFrom places places0
+laid0 = record { built = built0; bits = refl; ends = refl; shape = refl; slots = refl }

@@ -1,18 +1,19 @@
 -- The rows of N512R34's message columns, which are what the construction gives, with no pick relaxed: its quick form, which agrees with the definition, is
 -- computed here.
-use mathlib.Core.Path.{_≡_, refl, sym, ap, _∙_}
-use mathlib.Core.List.{List, [], _∷_, reverse}
+use mathlib.Core.Path.{refl, sym, _∙_}
+use mathlib.Core.List.{List, [], _∷_}
 use Prim.Native.Nat.{ℕ}
 use native.Mathlib.Omega.{arith}
 use Rattle.xorshift.specs.Draw.{draw, xor, mixed}
 use Rattle.columns.specs.Rows.{holds, sorted, insert}
 use Rattle.picking.specs.Picks.{settled, upFrom, firstOutside}
-use Rattle.construction.specs.Columns.{Made, finished, made, rowsOf, laidBefore}
+use Rattle.construction.specs.Columns.{finished, laidBefore}
 use Rattle.construction.specs.Quick.{marked, markedIf, markedBy, marksOf, lessOf, met, scan, foundIn, quickSearch, quickPick, loaded, quickOnePick, quickPicks}
 use Rattle.construction.specs.Quick.{quickFinished, quickColumn, quickColumns, quick}
-use Rattle.construction.specs.Codes.{n512r34, messageRows, relaxedPicks}
+use Rattle.construction.specs.Codes.{n512r34}
 use Rattle.construction.proofs.Agree.{agree}
 use Rattle.slots.specs.Layout.{threes}
+use Rattle.staircase.proofs.Laid.{Built}
 
 unfoldable pub rows2 : List ℕ
 rows2 =
@@ -60,18 +61,7 @@ rows2 =
     5 ∷ 23 ∷ 37 ∷ 99 ∷ 103 ∷ 117 ∷ 6 ∷ 57 ∷ 63 ∷ 8 ∷ 106 ∷ 113 ∷ 26 ∷ 108 ∷ 118 ∷ 4 ∷ 38 ∷ 62 ∷ 64 ∷ 89 ∷ 109 ∷ 65 ∷ 67 ∷ 111 ∷ 42 ∷ 43 ∷ 124 ∷
     44 ∷ 70 ∷ 76 ∷ 45 ∷ 77 ∷ 78 ∷ 79 ∷ 80 ∷ 84 ∷ []
 
-made2 : made 384 128 0x4c44504335313202 ≡ record { state = 0x7ea06dcb05136954; columns = reverse (threes rows2); relaxed = 0 }
+pub built2 : Built n512r34 rows2
 unfolding draw xor mixed holds settled sorted insert upFrom firstOutside marked markedIf markedBy marksOf lessOf met scan foundIn quickSearch quickPick loaded
-    quickFinished finished quickOnePick quickPicks quickColumn quickColumns quick rows2 threes
-made2 = sym (agree 384 128 0x4c44504335313202 (omega arith)) ∙ refl
-
-pub made-right2 : made 384 128 0x4c44504335313202 .columns ≡ reverse (threes rows2)
-made-right2 = ap (λ (g : Made). g .columns) made2
-
--- no pick is relaxed
-pub no-relaxed2 : relaxedPicks n512r34 ≡ 0
-no-relaxed2 = ap (λ (g : Made). g .relaxed) made2
-
-pub rows-right2 : rows2 ≡ messageRows n512r34
-unfolding rowsOf laidBefore rows2 threes
-rows-right2 = sym (ap (λ (cs : List (List ℕ)). laidBefore cs []) made-right2)
+    quickFinished finished quickOnePick quickPicks quickColumn quickColumns quick laidBefore rows2 threes
+built2 = record { state = 0x7ea06dcb05136954; given = sym (agree 384 128 0x4c44504335313202 (omega arith)) ∙ refl; flat = refl }

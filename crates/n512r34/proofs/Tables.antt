@@ -1,18 +1,17 @@
 -- The tables of N512R34, which hold its checks and the places of its message bits' edges: computed from the rows of its message columns.
 -- The lists are printed by tools/code_tables.py (`list n512r34 NAME`); what is proved of them does not rest on it.
-use mathlib.Core.Path.{_≡_, refl, sym, ap}
-use mathlib.Core.List.{List, [], _∷_, map, reverse}
-use Prim.Native.Nat.{ℕ, _<_}
-use lib.ListN.{drop}
+use mathlib.Core.Path.{refl}
+use mathlib.Core.List.{List, [], _∷_}
+use Prim.Native.Nat.{ℕ}
 use Rattle.columns.specs.Rows.{holds}
 use Rattle.construction.specs.Codes.{n512r34}
-use Rattle.tanner.specs.Flat.{joined, ends, offsets, places, edgesFrom}
+use Rattle.tanner.specs.Flat.{joined, ends, places, edgesFrom}
 use Rattle.staircase.specs.Staircase.{taps, parityEntries, checkRow, checkRows}
-use Rattle.staircase.specs.Shape.{tapsAt, stairRows, stairs}
-use Rattle.staircase.specs.Codes.{columns, checks}
-use Rattle.slots.specs.Layout.{slotEdges, threeAt, threes}
-use Rattle.slots.proofs.Tables.{slotBy, table-edges}
-use Rattle.n512r34.proofs.Rows.{rows2, made-right2}
+use Rattle.staircase.specs.Shape.{tapsAt, stairRows}
+use Rattle.slots.specs.Layout.{threes}
+use Rattle.slots.proofs.Tables.{slotBy}
+use Rattle.staircase.proofs.Laid.{Laid}
+use Rattle.n512r34.proofs.Rows.{rows2, built2}
 
 unfoldable pub checkStarts2 : List ℕ
 checkStarts2 =
@@ -186,31 +185,6 @@ places2 =
     1050 ∷ 1132 ∷ 1142 ∷ 1028 ∷ 1062 ∷ 1086 ∷ 1088 ∷ 1113 ∷ 1133 ∷ 1089 ∷ 1091 ∷ 1135 ∷ 1066 ∷ 1067 ∷ 1148 ∷ 1068 ∷ 1094 ∷ 1100 ∷ 1069 ∷ 1101 ∷ 1102 ∷
     1103 ∷ 1104 ∷ 1108 ∷ []
 
-columns-right2 : columns n512r34 ≡ threes rows2
-unfolding columns rows2 threes
-columns-right2 = ap reverse made-right2
-
-pub checks-right2 : checks n512r34 ≡ checkRows 384 (threes rows2) 0 128
-unfolding checks
-checks-right2 = rw columns-right2
-
-pub check-bits-right2 : checkBits2 ≡ joined (checks n512r34)
-unfolding checkBits2 joined checkRows checkRow taps parityEntries holds rows2 threes
-check-bits-right2 = sym (ap joined checks-right2)
-
-pub check-starts-right2 : checkStarts2 ≡ offsets (checks n512r34)
-unfolding checkStarts2 ends checkRows checkRow taps parityEntries holds rows2 threes
-check-starts-right2 = sym (ap offsets checks-right2)
-
--- the rows by their shape
-pub taps-right2 : stairs 384 9 128 taps2 ≡ checks n512r34
-unfolding stairRows tapsAt taps2 checkRows checkRow taps parityEntries holds rows2 threes
-taps-right2 = sym checks-right2
-
-places-computed2 : threes places2 ≡ map (map (slotBy 128 0 0 (drop 1 checkStarts2))) (edgesFrom 0 384 checkBits2)
-unfolding places2 threes slotBy checkStarts2 edgesFrom places checkBits2
-places-computed2 = refl
-
--- the places by slots of each message bit's edges
-pub places-right2 : (b : ℕ) → b < 384 → threeAt places2 b ≡ slotEdges (checks n512r34) 128 b
-places-right2 = table-edges (checks n512r34) 128 checkStarts2 check-starts-right2 384 checkBits2 places2 check-bits-right2 places-computed2
+pub laid2 : Laid n512r34 rows2 checkStarts2 checkBits2 9 taps2 places2
+unfolding joined ends checkRows checkRow taps parityEntries holds rows2 threes checkStarts2 checkBits2 stairRows tapsAt taps2 slotBy edgesFrom places places2
+laid2 = record { built = built2; bits = refl; ends = refl; shape = refl; slots = refl }

@@ -1,18 +1,19 @@
 -- The rows of N576R23's message columns, which are what the construction gives, with no pick relaxed: its quick form, which agrees with the definition, is
 -- computed here.
-use mathlib.Core.Path.{_≡_, refl, sym, ap, _∙_}
-use mathlib.Core.List.{List, [], _∷_, reverse}
+use mathlib.Core.Path.{refl, sym, _∙_}
+use mathlib.Core.List.{List, [], _∷_}
 use Prim.Native.Nat.{ℕ}
 use native.Mathlib.Omega.{arith}
 use Rattle.xorshift.specs.Draw.{draw, xor, mixed}
 use Rattle.columns.specs.Rows.{holds, sorted, insert}
 use Rattle.picking.specs.Picks.{settled, upFrom, firstOutside}
-use Rattle.construction.specs.Columns.{Made, finished, made, rowsOf, laidBefore}
+use Rattle.construction.specs.Columns.{finished, laidBefore}
 use Rattle.construction.specs.Quick.{marked, markedIf, markedBy, marksOf, lessOf, met, scan, foundIn, quickSearch, quickPick, loaded, quickOnePick, quickPicks}
 use Rattle.construction.specs.Quick.{quickFinished, quickColumn, quickColumns, quick}
-use Rattle.construction.specs.Codes.{n576r23, messageRows, relaxedPicks}
+use Rattle.construction.specs.Codes.{n576r23}
 use Rattle.construction.proofs.Agree.{agree}
 use Rattle.slots.specs.Layout.{threes}
+use Rattle.staircase.proofs.Laid.{Built}
 
 unfoldable pub rows1 : List ℕ
 rows1 =
@@ -62,18 +63,7 @@ rows1 =
     116 ∷ 164 ∷ 27 ∷ 165 ∷ 168 ∷ 87 ∷ 169 ∷ 170 ∷ 93 ∷ 174 ∷ 175 ∷ 35 ∷ 118 ∷ 177 ∷ 94 ∷ 117 ∷ 182 ∷ 97 ∷ 99 ∷ 105 ∷ 46 ∷ 122 ∷ 183 ∷ 106 ∷ 181
     ∷ 185 ∷ 4 ∷ 187 ∷ 190 ∷ 2 ∷ 3 ∷ 28 ∷ 30 ∷ 31 ∷ 36 ∷ 32 ∷ 37 ∷ 39 ∷ 40 ∷ 41 ∷ 42 ∷ 43 ∷ 44 ∷ 48 ∷ []
 
-made1 : made 384 192 0x4c44504335313201 ≡ record { state = 0x6f57f175536488dd; columns = reverse (threes rows1); relaxed = 0 }
+pub built1 : Built n576r23 rows1
 unfolding draw xor mixed holds settled sorted insert upFrom firstOutside marked markedIf markedBy marksOf lessOf met scan foundIn quickSearch quickPick loaded
-    quickFinished finished quickOnePick quickPicks quickColumn quickColumns quick rows1 threes
-made1 = sym (agree 384 192 0x4c44504335313201 (omega arith)) ∙ refl
-
-pub made-right1 : made 384 192 0x4c44504335313201 .columns ≡ reverse (threes rows1)
-made-right1 = ap (λ (g : Made). g .columns) made1
-
--- no pick is relaxed
-pub no-relaxed1 : relaxedPicks n576r23 ≡ 0
-no-relaxed1 = ap (λ (g : Made). g .relaxed) made1
-
-pub rows-right1 : rows1 ≡ messageRows n576r23
-unfolding rowsOf laidBefore rows1 threes
-rows-right1 = sym (ap (λ (cs : List (List ℕ)). laidBefore cs []) made-right1)
+    quickFinished finished quickOnePick quickPicks quickColumn quickColumns quick laidBefore rows1 threes
+built1 = record { state = 0x6f57f175536488dd; given = sym (agree 384 192 0x4c44504335313201 (omega arith)) ∙ refl; flat = refl }

@@ -1,18 +1,17 @@
 -- The tables of N576R23, which hold its checks and the places of its message bits' edges: computed from the rows of its message columns.
 -- The lists are printed by tools/code_tables.py (`list n576r23 NAME`); what is proved of them does not rest on it.
-use mathlib.Core.Path.{_≡_, refl, sym, ap}
-use mathlib.Core.List.{List, [], _∷_, map, reverse}
-use Prim.Native.Nat.{ℕ, _<_}
-use lib.ListN.{drop}
+use mathlib.Core.Path.{refl}
+use mathlib.Core.List.{List, [], _∷_}
+use Prim.Native.Nat.{ℕ}
 use Rattle.columns.specs.Rows.{holds}
 use Rattle.construction.specs.Codes.{n576r23}
-use Rattle.tanner.specs.Flat.{joined, ends, offsets, places, edgesFrom}
+use Rattle.tanner.specs.Flat.{joined, ends, places, edgesFrom}
 use Rattle.staircase.specs.Staircase.{taps, parityEntries, checkRow, checkRows}
-use Rattle.staircase.specs.Shape.{tapsAt, stairRows, stairs}
-use Rattle.staircase.specs.Codes.{columns, checks}
-use Rattle.slots.specs.Layout.{slotEdges, threeAt, threes}
-use Rattle.slots.proofs.Tables.{slotBy, table-edges}
-use Rattle.n576r23.proofs.Rows.{rows1, made-right1}
+use Rattle.staircase.specs.Shape.{tapsAt, stairRows}
+use Rattle.slots.specs.Layout.{threes}
+use Rattle.slots.proofs.Tables.{slotBy}
+use Rattle.staircase.proofs.Laid.{Laid}
+use Rattle.n576r23.proofs.Rows.{rows1, built1}
 
 unfoldable pub checkStarts1 : List ℕ
 checkStarts1 =
@@ -194,31 +193,6 @@ places1 =
     1059 ∷ 1065 ∷ 1006 ∷ 1082 ∷ 1143 ∷ 1066 ∷ 1141 ∷ 1145 ∷ 964 ∷ 1147 ∷ 1150 ∷ 962 ∷ 963 ∷ 988 ∷ 990 ∷ 991 ∷ 996 ∷ 992 ∷ 997 ∷ 999 ∷ 1000 ∷ 1001 ∷
     1002 ∷ 1003 ∷ 1004 ∷ 1008 ∷ []
 
-columns-right1 : columns n576r23 ≡ threes rows1
-unfolding columns rows1 threes
-columns-right1 = ap reverse made-right1
-
-pub checks-right1 : checks n576r23 ≡ checkRows 384 (threes rows1) 0 192
-unfolding checks
-checks-right1 = rw columns-right1
-
-pub check-bits-right1 : checkBits1 ≡ joined (checks n576r23)
-unfolding checkBits1 joined checkRows checkRow taps parityEntries holds rows1 threes
-check-bits-right1 = sym (ap joined checks-right1)
-
-pub check-starts-right1 : checkStarts1 ≡ offsets (checks n576r23)
-unfolding checkStarts1 ends checkRows checkRow taps parityEntries holds rows1 threes
-check-starts-right1 = sym (ap offsets checks-right1)
-
--- the rows by their shape
-pub taps-right1 : stairs 384 6 192 taps1 ≡ checks n576r23
-unfolding stairRows tapsAt taps1 checkRows checkRow taps parityEntries holds rows1 threes
-taps-right1 = sym checks-right1
-
-places-computed1 : threes places1 ≡ map (map (slotBy 192 0 0 (drop 1 checkStarts1))) (edgesFrom 0 384 checkBits1)
-unfolding places1 threes slotBy checkStarts1 edgesFrom places checkBits1
-places-computed1 = refl
-
--- the places by slots of each message bit's edges
-pub places-right1 : (b : ℕ) → b < 384 → threeAt places1 b ≡ slotEdges (checks n576r23) 192 b
-places-right1 = table-edges (checks n576r23) 192 checkStarts1 check-starts-right1 384 checkBits1 places1 check-bits-right1 places-computed1
+pub laid1 : Laid n576r23 rows1 checkStarts1 checkBits1 6 taps1 places1
+unfolding joined ends checkRows checkRow taps parityEntries holds rows1 threes checkStarts1 checkBits1 stairRows tapsAt taps1 slotBy edgesFrom places places1
+laid1 = record { built = built1; bits = refl; ends = refl; shape = refl; slots = refl }

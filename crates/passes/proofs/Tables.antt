@@ -10,9 +10,10 @@ use Rattle.lists.specs.Below.{Below}
 use Rattle.slots.specs.Layout.{Slotted, slotEdges, padPlaces, threeAt}
 use Rattle.staircase.specs.Codes.{checks}
 use Rattle.staircase.specs.Shape.{stairs}
-use Rattle.n512r12.proofs.Tables.{taps0, taps-right0, places0, places-right0}
-use Rattle.n576r23.proofs.Tables.{taps1, taps-right1, places1, places-right1}
-use Rattle.n512r34.proofs.Tables.{taps2, taps-right2, places2, places-right2}
+use Rattle.staircase.proofs.Laid.{places-right, taps-right}
+use Rattle.n512r12.proofs.Tables.{taps0, laid0, places0}
+use Rattle.n576r23.proofs.Tables.{taps1, laid1, places1}
+use Rattle.n512r34.proofs.Tables.{taps2, laid2, places2}
 use Rattle.stairs.specs.Stairs.{Stairs}
 use Rattle.stairs.proofs.Codes.{allBelow, tested, stairs0, stairs1, stairs2}
 use Rattle.stairs.proofs.BySlots.{stairs-slotted, stairs-pads, stairs-edges}
@@ -43,22 +44,22 @@ module _ (c : Code) (width n : ℕ) (taps : List ℕ) (s : Stairs (c .k) width (
 -- ---- the three
 
 pub edges0 : StairEdges (checks n512r12) 256 256 768 places0
-edges0 = stair-edges n512r12 3 512 taps0 (stairs0 512 (omega arith)) taps-right0 places0 places-right0
+edges0 = stair-edges n512r12 3 512 taps0 (stairs0 512 (omega arith)) (taps-right laid0) places0 (places-right laid0)
 
 pub edges1 : StairEdges (checks n576r23) 384 192 1152 places1
-edges1 = stair-edges n576r23 6 576 taps1 (stairs1 576 (omega arith)) taps-right1 places1 places-right1
+edges1 = stair-edges n576r23 6 576 taps1 (stairs1 576 (omega arith)) (taps-right laid1) places1 (places-right laid1)
 
 pub edges2 : StairEdges (checks n512r34) 384 128 1152 places2
-edges2 = stair-edges n512r34 9 512 taps2 (stairs2 512 (omega arith)) taps-right2 places2 places-right2
+edges2 = stair-edges n512r34 9 512 taps2 (stairs2 512 (omega arith)) (taps-right laid2) places2 (places-right laid2)
 
 pub pads0 : 1024 ∷ [] ≡ padPlaces (checks n512r12) 256 5
-pads0 = stair-pads n512r12 3 512 taps0 (stairs0 512 (omega arith)) taps-right0 (omega arith)
+pads0 = stair-pads n512r12 3 512 taps0 (stairs0 512 (omega arith)) (taps-right laid0) (omega arith)
 
 pub pads1 : 1344 ∷ [] ≡ padPlaces (checks n576r23) 192 8
-pads1 = stair-pads n576r23 6 576 taps1 (stairs1 576 (omega arith)) taps-right1 (omega arith)
+pads1 = stair-pads n576r23 6 576 taps1 (stairs1 576 (omega arith)) (taps-right laid1) (omega arith)
 
 pub pads2 : 1280 ∷ [] ≡ padPlaces (checks n512r34) 128 11
-pads2 = stair-pads n512r34 9 512 taps2 (stairs2 512 (omega arith)) taps-right2 (omega arith)
+pads2 = stair-pads n512r34 9 512 taps2 (stairs2 512 (omega arith)) (taps-right laid2) (omega arith)
 
 pub pads3 : slotPads ≡ padPlaces code174.checks 83 7
 pads3 = pads-right
@@ -94,9 +95,9 @@ listed3 k e = record { size = omega (arith, edges-size); low = rw e edges-low }
 
 pub slotted-by : (code : ℕ) → Slotted (checksBy code) (sizeM code) (degree code)
 unfolding checksBy sizeM degree
-slotted-by zero = stair-slotted n512r12 3 512 taps0 (stairs0 512 (omega arith)) taps-right0
-slotted-by (suc zero) = stair-slotted n576r23 6 576 taps1 (stairs1 576 (omega arith)) taps-right1
-slotted-by (suc (suc zero)) = stair-slotted n512r34 9 512 taps2 (stairs2 512 (omega arith)) taps-right2
+slotted-by zero = stair-slotted n512r12 3 512 taps0 (stairs0 512 (omega arith)) (taps-right laid0)
+slotted-by (suc zero) = stair-slotted n576r23 6 576 taps1 (stairs1 576 (omega arith)) (taps-right laid1)
+slotted-by (suc (suc zero)) = stair-slotted n512r34 9 512 taps2 (stairs2 512 (omega arith)) (taps-right laid2)
 slotted-by (suc (suc (suc n))) = slotted
 
 -- ---- the room at a code that a test has found

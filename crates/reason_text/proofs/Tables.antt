@@ -13,9 +13,10 @@ use Rattle.tanner.specs.Checks.{Word, Checks}
 use Rattle.tanner.specs.Flat.{joined, offsets, rowsOf, FlatChecks}
 use Rattle.tanner.proofs.Flat.{rows-laid, row-at, offsets-length}
 use Rattle.staircase.specs.Codes.{checks}
-use Rattle.n512r12.proofs.Tables.{checkStarts0, checkBits0, check-starts-right0, check-bits-right0}
-use Rattle.n576r23.proofs.Tables.{checkStarts1, checkBits1, check-starts-right1, check-bits-right1}
-use Rattle.n512r34.proofs.Tables.{checkStarts2, checkBits2, check-starts-right2, check-bits-right2}
+use Rattle.staircase.proofs.Laid.{check-bits-right, check-starts-right}
+use Rattle.n512r12.proofs.Tables.{checkStarts0, checkBits0, laid0}
+use Rattle.n576r23.proofs.Tables.{checkStarts1, checkBits1, laid1}
+use Rattle.n512r34.proofs.Tables.{checkStarts2, checkBits2, laid2}
 use Rattle.staircase.proofs.Positions.{checks-many}
 use Rattle.ldpc_codes.proofs.Laid.{laid-flat}
 use Rattle.code174.specs.Code174 as code174
@@ -76,15 +77,15 @@ stairs-by code c starts positions e n s f small t =
 
 pub tables0 : Tables 0 checkStarts0 checkBits0
 unfolding checksBy sizeN checkStarts0 each
-tables0 = stairs-by 0 n512r12 checkStarts0 checkBits0 refl refl check-starts-right0 check-bits-right0 (omega arith) refl
+tables0 = stairs-by 0 n512r12 checkStarts0 checkBits0 refl refl (check-starts-right laid0) (check-bits-right laid0) (omega arith) refl
 
 pub tables1 : Tables 1 checkStarts1 checkBits1
 unfolding checksBy sizeN checkStarts1 each
-tables1 = stairs-by 1 n576r23 checkStarts1 checkBits1 refl refl check-starts-right1 check-bits-right1 (omega arith) refl
+tables1 = stairs-by 1 n576r23 checkStarts1 checkBits1 refl refl (check-starts-right laid1) (check-bits-right laid1) (omega arith) refl
 
 pub tables2 : Tables 2 checkStarts2 checkBits2
 unfolding checksBy sizeN checkStarts2 each
-tables2 = stairs-by 2 n512r34 checkStarts2 checkBits2 refl refl check-starts-right2 check-bits-right2 (omega arith) refl
+tables2 = stairs-by 2 n512r34 checkStarts2 checkBits2 refl refl (check-starts-right laid2) (check-bits-right laid2) (omega arith) refl
 
 -- every number above 2 reads as code 3
 pub tables3 : (n : ℕ) → Tables (suc (suc (suc n))) checkStart checkBits

@@ -34,11 +34,6 @@ module _ {A : Type 0} where
   kept-past-by : (t : Bool) (n : ℕ) (rest : Outcome Unit) (old x y : A) → cond t (refused n) rest ≡ nothing → (rest ≡ nothing → x ≡ y) → cond t old x ≡ y
   kept-past-by t n rest old x y e f = let p = passed-by t n rest e in rw (p .not-held) (f (p .others))
 
-  pub kept-past : (xs ys : List Condition) (old new : A) → verdict xs ≡ nothing → kept (xs ++ ys) old new ≡ kept ys old new
-  kept-past [] ys old new e = refl
-  kept-past (c ∷ xs) ys old new e =
-      kept-past-by (c .holds) (c .number) (verdict xs) old (kept (xs ++ ys) old new) (kept ys old new) e (kept-past xs ys old new)
-
   judged-front-by : (t : Bool) (n k : ℕ) (rest : Outcome Unit) (x : Outcome A) → cond t (refused n) rest ≡ refused k → (rest ≡ refused k → x ≡ refused k)
       → cond t (refused n) x ≡ refused k
   judged-front-by true n k rest x e f = let q : n ≡ k = cc in ap (λ (m : ℕ). refused m) q
@@ -52,10 +47,6 @@ module _ {A : Type 0} where
       → cond t old x ≡ old
   kept-front-by true n k rest old x e f = refl
   kept-front-by false n k rest old x e f = f e
-
-  pub kept-front : (xs ys : List Condition) (old new : A) (k : ℕ) → verdict xs ≡ refused k → kept (xs ++ ys) old new ≡ old
-  kept-front [] ys old new k e = let z : _≡_ {A = ℕ} 0 1 = cc in absurd (omega arith)
-  kept-front (c ∷ xs) ys old new k e = kept-front-by (c .holds) (c .number) k (verdict xs) old (kept (xs ++ ys) old new) e (kept-front xs ys old new k)
 
 -- of one run
 pub judged-accepted : {A : Type 0} (xs : List Condition) (a : A) → verdict xs ≡ nothing → judged xs a ≡ accepted a

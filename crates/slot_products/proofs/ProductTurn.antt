@@ -1,8 +1,8 @@
 -- The turn of one slot, from what the calls of the turn answer, and the turns one after the other. Assumes nothing.
 use mathlib.Core.Path.{_≡_, sym, ap, _∙_}
 use mathlib.Core.List.{List, _++_, append-assoc}
-use Prim.Native.Nat.{ℕ, zero, suc, _+_, _-_, _*_, _/_, _≤_, _<_}
-use native.Mathlib.Nat.{suc-mul, mul-div-cancel}
+use Prim.Native.Nat.{ℕ, zero, suc, _+_, _-_, _*_, _≤_, _<_}
+use native.Mathlib.Nat.{suc-mul}
 use native.Mathlib.Omega.{arith}
 use lib.ListN.{length, take, drop, length-append, length-drop, length-replicate, take-append-drop}
 use lib.Seq.{length-take-le, take-at, drop-at, drop-drop}
@@ -117,7 +117,3 @@ by-columns m d w v h size e = record {
 }
 
 -- the slots that the whole is
-pub whole-columns : (m d : ℕ) (w v : List Float) → 0 < m → length w ≡ d * m → ByColumns m (length w / m) w v → ByColumns m d w v
-whole-columns m d w v h e b =
-    let q : length w / m ≡ d = ap (λ (n : ℕ). n / m) e ∙ mul-div-cancel d h in
-    rw q at b

@@ -1,7 +1,7 @@
 -- The laws of counting, for any check list: what each mask counts, and which part of a word matters. By induction over the checks. Assumes nothing.
 use mathlib.Core.Path.{_≡_, refl, _∙_}
 use mathlib.Core.List.{List, [], _∷_}
-use Prim.Native.Nat.{ℕ, zero, suc, _+_, _%_, _^_, _<_, _≤_}
+use Prim.Native.Nat.{ℕ, zero, suc, _+_, _%_, _^_, _<_}
 use native.Mathlib.Omega.{arith}
 use lib.Bits.{bitAnd, bitXor, and-mask, xor-add-and, xor-lt}
 use lib.ListN.{length, getD, take, length-map, List·getD-map}
@@ -17,11 +17,6 @@ pub parity-bit : (ps : List ℕ) (w : Word) → parity ps w < 2
 unfolding parity
 parity-bit [] w = omega arith
 parity-bit (p ∷ ps) w = omega arith
-
-pub count-bound : (cs : Checks) (w : Word) → count cs w ≤ length cs
-unfolding count
-count-bound [] w = omega arith
-count-bound (c ∷ cs) w = omega (arith, parity-bit c w, count-bound cs w)
 
 -- ---- the low bits
 

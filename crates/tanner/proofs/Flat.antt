@@ -11,8 +11,7 @@ use Rattle.tanner.specs.Checks.{Checks}
 use Rattle.tanner.specs.Flat.{joined, ends, offsets, cut, rowsFrom, rowsOf, Within, FlatChecks, places, edgesFrom}
 use Rattle.lists.specs.Below.{Below}
 use Rattle.tanner.proofs.Count.{AllBelow, none, more}
-use Rattle.tanner.proofs.Places.{places-stand}
-use Rattle.lists.proofs.Below.{below-none, below-append, below-left, below-right}
+use Rattle.lists.proofs.Below.{below-left, below-right}
 
 -- ---- what lies in the arrays is the check list
 
@@ -89,17 +88,6 @@ unfolding edgesFrom
 edges-at p zero b flat h = absurd (omega arith)
 edges-at p (suc n) zero flat h = rw add-zero
 edges-at p (suc n) (suc b) flat h = rw (add-suc, ← suc-add) (edges-at (suc p) n b flat (omega arith))
-
--- they are edges
-
-places-low : (p : ℕ) (flat : List ℕ) → Below (length flat) (places p 0 flat)
-unfolding Below
-places-low p flat k l = let s = places-stand p 0 flat k l in omega (arith, s .place, s .inside)
-
-edges-low : (p n : ℕ) (flat : List ℕ) → Below (length flat) (joined (edgesFrom p n flat))
-unfolding edgesFrom joined
-edges-low p zero flat = below-none (length flat)
-edges-low p (suc n) flat = below-append (length flat) (places p 0 flat) (joined (edgesFrom (suc p) n flat)) (places-low p flat) (edges-low (suc p) n flat)
 
 pub offsets-length : (rs : Checks) → length (offsets rs) ≡ suc (length rs)
 offsets-length rs = ap suc (ends-length 0 rs)

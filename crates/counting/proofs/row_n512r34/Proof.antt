@@ -1,7 +1,8 @@
 -- `counting::row_n512r34` meets its contract: the table holds the code's rows. Assumes nothing.
 use mathlib.Core.Path.{refl}
 use native.Mathlib.Omega.{arith}
-use Rattle.n512r34.proofs.Tables.{taps2, taps-right2}
+use Rattle.staircase.proofs.Laid.{taps-right}
+use Rattle.n512r34.proofs.Tables.{taps2, laid2}
 use Rattle.stairs.proofs.Codes.{stairs2}
 use Rattle.numbered.specs.Codes.{sizeN, checksBy}
 use Rattle.counting.proofs.row_n512r34.Statement.{statement}
@@ -17,7 +18,7 @@ first-row-requires c κs = stairs2 _ (omega (arith, c .before .before .pre))
 
 returns : tie.Need-returns
 unfolding taps2 checksBy
-returns c = rw (← taps-right2) (c .first-row .ensures)
+returns c = rw (← taps-right laid2) (c .first-row .ensures)
 
 pub row-n512r34-spec : {M : Type 1} → statement M
 row-n512r34-spec = tie.close (tie.spec slice-aggregate-first-row first-row-requires returns)

@@ -1,7 +1,8 @@
 -- `counting::row_n576r23` meets its contract: the table holds the code's rows. Assumes nothing.
 use mathlib.Core.Path.{refl}
 use native.Mathlib.Omega.{arith}
-use Rattle.n576r23.proofs.Tables.{taps1, taps-right1}
+use Rattle.staircase.proofs.Laid.{taps-right}
+use Rattle.n576r23.proofs.Tables.{taps1, laid1}
 use Rattle.stairs.proofs.Codes.{stairs1}
 use Rattle.numbered.specs.Codes.{sizeN, checksBy}
 use Rattle.counting.proofs.row_n576r23.Statement.{statement}
@@ -17,7 +18,7 @@ first-row-requires c κs = stairs1 _ (omega (arith, c .before .before .pre))
 
 returns : tie.Need-returns
 unfolding taps1 checksBy
-returns c = rw (← taps-right1) (c .first-row .ensures)
+returns c = rw (← taps-right laid1) (c .first-row .ensures)
 
 pub row-n576r23-spec : {M : Type 1} → statement M
 row-n576r23-spec = tie.close (tie.spec slice-aggregate-first-row first-row-requires returns)

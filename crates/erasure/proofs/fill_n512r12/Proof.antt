@@ -1,7 +1,8 @@
 -- `erasure::fill_n512r12` meets its contract: the code's flat tables hold its checks. Assumes nothing.
 use native.Mathlib.Omega.{arith}
 use Rattle.construction.specs.Codes.{n512r12}
-use Rattle.n512r12.proofs.Tables.{checkStarts0, checkBits0, check-starts-right0, check-bits-right0}
+use Rattle.staircase.proofs.Laid.{check-bits-right, check-starts-right}
+use Rattle.n512r12.proofs.Tables.{checkStarts0, checkBits0, laid0}
 use Rattle.ldpc_codes.proofs.Laid.{laid-flat}
 use Rattle.erasure.proofs.Answers.{staircase-rows, at-checks}
 use Rattle.numbered.specs.Codes.{sizeN, checksBy}
@@ -18,7 +19,7 @@ slice-aggregate-fill-over-2 c = search needs
 
 fill-over-requires : tie.Need-fill-over-requires
 unfolding checkStarts0 checkBits0
-fill-over-requires c κs = (laid-flat n512r12 checkStarts0 checkBits0 check-starts-right0 check-bits-right0 (omega arith), omega arith)
+fill-over-requires c κs = (laid-flat n512r12 checkStarts0 checkBits0 (check-starts-right laid0) (check-bits-right laid0) (omega arith), omega arith)
 
 same-length : tie.Need-same-length
 same-length c = search needs
@@ -33,7 +34,7 @@ returns c =
     let a = done .before .before .before .before .before .before .before .args in
     let w = a .word .now in
     let l = a .places .now in
-    at-checks _ _ (staircase-rows n512r12 checkStarts0 checkBits0 check-starts-right0 check-bits-right0) (erasureRefusals 0 w l) w l (done .fill-over .ensures)
+    at-checks _ _ (staircase-rows n512r12 checkStarts0 checkBits0 (check-starts-right laid0) (check-bits-right laid0)) (erasureRefusals 0 w l) w l (done .fill-over .ensures)
 
 pub fill-n512r12-spec : {M : Type 1} → statement M
 fill-n512r12-spec =

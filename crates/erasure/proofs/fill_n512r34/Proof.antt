@@ -1,7 +1,8 @@
 -- `erasure::fill_n512r34` meets its contract: the code's flat tables hold its checks. Assumes nothing.
 use native.Mathlib.Omega.{arith}
 use Rattle.construction.specs.Codes.{n512r34}
-use Rattle.n512r34.proofs.Tables.{checkStarts2, checkBits2, check-starts-right2, check-bits-right2}
+use Rattle.staircase.proofs.Laid.{check-bits-right, check-starts-right}
+use Rattle.n512r34.proofs.Tables.{checkStarts2, checkBits2, laid2}
 use Rattle.ldpc_codes.proofs.Laid.{laid-flat}
 use Rattle.erasure.proofs.Answers.{staircase-rows, at-checks}
 use Rattle.numbered.specs.Codes.{sizeN, checksBy}
@@ -18,7 +19,7 @@ slice-aggregate-fill-over-2 c = search needs
 
 fill-over-requires : tie.Need-fill-over-requires
 unfolding checkStarts2 checkBits2
-fill-over-requires c κs = (laid-flat n512r34 checkStarts2 checkBits2 check-starts-right2 check-bits-right2 (omega arith), omega arith)
+fill-over-requires c κs = (laid-flat n512r34 checkStarts2 checkBits2 (check-starts-right laid2) (check-bits-right laid2) (omega arith), omega arith)
 
 same-length : tie.Need-same-length
 same-length c = search needs
@@ -33,7 +34,7 @@ returns c =
     let a = done .before .before .before .before .before .before .before .args in
     let w = a .word .now in
     let l = a .places .now in
-    at-checks _ _ (staircase-rows n512r34 checkStarts2 checkBits2 check-starts-right2 check-bits-right2) (erasureRefusals 2 w l) w l (done .fill-over .ensures)
+    at-checks _ _ (staircase-rows n512r34 checkStarts2 checkBits2 (check-starts-right laid2) (check-bits-right laid2)) (erasureRefusals 2 w l) w l (done .fill-over .ensures)
 
 pub fill-n512r34-spec : {M : Type 1} → statement M
 fill-n512r34-spec =

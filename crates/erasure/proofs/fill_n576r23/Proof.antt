@@ -1,7 +1,8 @@
 -- `erasure::fill_n576r23` meets its contract: the code's flat tables hold its checks. Assumes nothing.
 use native.Mathlib.Omega.{arith}
 use Rattle.construction.specs.Codes.{n576r23}
-use Rattle.n576r23.proofs.Tables.{checkStarts1, checkBits1, check-starts-right1, check-bits-right1}
+use Rattle.staircase.proofs.Laid.{check-bits-right, check-starts-right}
+use Rattle.n576r23.proofs.Tables.{checkStarts1, checkBits1, laid1}
 use Rattle.ldpc_codes.proofs.Laid.{laid-flat}
 use Rattle.erasure.proofs.Answers.{staircase-rows, at-checks}
 use Rattle.numbered.specs.Codes.{sizeN, checksBy}
@@ -18,7 +19,7 @@ slice-aggregate-fill-over-2 c = search needs
 
 fill-over-requires : tie.Need-fill-over-requires
 unfolding checkStarts1 checkBits1
-fill-over-requires c κs = (laid-flat n576r23 checkStarts1 checkBits1 check-starts-right1 check-bits-right1 (omega arith), omega arith)
+fill-over-requires c κs = (laid-flat n576r23 checkStarts1 checkBits1 (check-starts-right laid1) (check-bits-right laid1) (omega arith), omega arith)
 
 same-length : tie.Need-same-length
 same-length c = search needs
@@ -33,7 +34,7 @@ returns c =
     let a = done .before .before .before .before .before .before .before .args in
     let w = a .word .now in
     let l = a .places .now in
-    at-checks _ _ (staircase-rows n576r23 checkStarts1 checkBits1 check-starts-right1 check-bits-right1) (erasureRefusals 1 w l) w l (done .fill-over .ensures)
+    at-checks _ _ (staircase-rows n576r23 checkStarts1 checkBits1 (check-starts-right laid1) (check-bits-right laid1)) (erasureRefusals 1 w l) w l (done .fill-over .ensures)
 
 pub fill-n576r23-spec : {M : Type 1} → statement M
 fill-n576r23-spec =

@@ -2,7 +2,8 @@
 use mathlib.Core.Path.{refl}
 use native.Mathlib.Omega.{arith}
 use Rattle.construction.specs.Codes.{n576r23}
-use Rattle.n576r23.proofs.Tables.{taps1, taps-right1}
+use Rattle.staircase.proofs.Laid.{taps-right}
+use Rattle.n576r23.proofs.Tables.{taps1, laid1}
 use Rattle.stairs.proofs.Codes.{stairs1}
 use Rattle.stair_parity.proofs.Filling.{part-of}
 use Rattle.parities.proofs.Filled.{four-filled}
@@ -48,7 +49,7 @@ returns c =
     let three = four .before .before .before .before .before in
     let two = three .before .before .before .before .before in
     let one = two .before .before .before .before .before in
-    four-filled n576r23 6 48 taps1 _ _ _ _ _ taps-right1 refl (one .fill-four .ensures) (two .fill-four2 .ensures) (three .fill-four3 .ensures)
+    four-filled n576r23 6 48 taps1 _ _ _ _ _ (taps-right laid1) refl (one .fill-four .ensures) (two .fill-four2 .ensures) (three .fill-four3 .ensures)
     (four .fill-four4 .ensures)
 
 pub fill-n576r23-spec : {M : Type 1} → statement M
