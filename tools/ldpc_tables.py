@@ -104,7 +104,8 @@ def main():
                 f.write("\n" + listed(note, names[name], t, a_line, shown))
 
     with open(os.path.join(code, "proofs/Arrays.antt"), "w", encoding="utf-8") as f:
-        f.write(head("-- The Tanner graph's arrays, as the source's constants have them; `Graph.antt` and `BySlots.antt` show that they are right, by computation.\n"
+        f.write(head("-- The Tanner graph's arrays, as the source's constants have them; `Graph.antt` and `BySlots.antt` show that they are right, "
+                     "by computation.\n"
                      "-- Written by tools/ldpc_tables.py.\n"))
         for note, name, t, spelled in graph:
             f.write("\n" + listed(note, spelled, t, 20, "%d"))

@@ -187,7 +187,15 @@ def inputs():
     xs += [r.getrandbits(32) for _ in range(10000)]
     xs += [r.randrange(bits(0.001), bits(6.0)) | r.getrandbits(1) << 31 for _ in range(1000)]
     out = [record(0, len(xs[i:i + 11]), 0, xs[i:i + 11]) for i in range(0, len(xs), 11)]
-    mixed = lambda: r.choice([lambda: r.choice(SPECIAL), lambda: r.choice(NEAR), lambda: r.choice(NEAR), lambda: bits(r.gauss(0, 4)), lambda: bits(r.gauss(0, 4)), lambda: r.getrandbits(32)])()
+    kinds = [
+        lambda: r.choice(SPECIAL),
+        lambda: r.choice(NEAR),
+        lambda: r.choice(NEAR),
+        lambda: bits(r.gauss(0, 4)),
+        lambda: bits(r.gauss(0, 4)),
+        lambda: r.getrandbits(32),
+    ]
+    mixed = lambda: r.choice(kinds)()
     usual = lambda: bits(r.gauss(1, 3))
     for what in (1, 2, 3, 4):
         for degree in range(4, 12):

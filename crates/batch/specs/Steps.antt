@@ -1,5 +1,5 @@
--- The batch step by step: one pair tested, one frame decoded to its place, and what is known of a batch that is not refused. These are what the loops over the pairs are made of, and no promise to a
--- customer: `proofs/Pairs.antt` of `batch_refusals` and `proofs/Frames.antt` carry them to `Calls.antt`.
+-- The batch step by step: one pair tested, one frame decoded to its place, and what is known of a batch that is not refused. These are what the loops
+-- over the pairs are made of, and no promise to a customer: `proofs/Pairs.antt` of `batch_refusals` and `proofs/Frames.antt` carry them to `Calls.antt`.
 use mathlib.Core.Path.{_≡_}
 use Prim.Native.Nat.{_*_, _<_, _≤_}
 use lib.ListN.{length}
