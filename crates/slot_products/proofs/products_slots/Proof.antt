@@ -22,13 +22,14 @@ Inv-loop m d work₀ scratch₀ left₀ a₀ work scratch left a =
 abbrev μ-loop : tie.MeasureT-loop
 μ-loop m d work₀ scratch₀ left₀ a₀ work scratch left a = left
 
+abbrev start : tie.At-loop Inv-loop μ-loop → tie.Start Inv-loop μ-loop
+start l = l .before .before .before .before .before .before .before
+
 -- in a turn: the slot lies in the work area, with those after it, and the scratch has room for two
-fits : (c : tie.In-loop Inv-loop μ-loop) → c .before .loop .a + c .before .before .before .before .before .before .before .before .args .m +
-    (c .before .loop .left - 1) * c .before .before .before .before .before .before .before .before .args .m ≤ length (c .before .loop .work)
+fits : (c : tie.In-loop Inv-loop μ-loop) → let l = c .before .loop in let m = start (c .before) .args .m in l .a + m + (l .left - 1) * m ≤ length (l .work)
 fits c = room _ _ _ _ (c .loop-test .taken) (c .before .loop .inv .0)
 
-long : (c : tie.In-loop Inv-loop μ-loop) → c .before .before .before .before .before .before .before .before .args .m + c .before .before .before .before
-    .before .before .before .before .args .m ≤ length (c .before .loop .scratch)
+long : (c : tie.In-loop Inv-loop μ-loop) → let m = start (c .before) .args .m in m + m ≤ length (c .before .loop .scratch)
 long c = omega arith
 
 slice-relend-prefix-ones-slot : tie.Need-slice-relend-prefix-ones-slot Inv-loop μ-loop
@@ -79,10 +80,9 @@ same-length-2 c = search needs
 
 returns : tie.Need-returns Inv-loop μ-loop
 returns c =
-    let start = c .before .before .before .before .before .before .before .before in
-    let inv = c .before .loop .inv in
-    by-columns _ _ _ _ (start .pre .0) (inv .1)
-    (turns-done (start .args .m) _ (c .before .loop .a) (take (start .args .m) (c .before .loop .scratch)) _ _ (c .loop-test .left) (inv .3))
+    let l = c .before .loop in
+    let s = start (c .before) in
+    by-columns _ _ _ _ (s .pre .0) (l .inv .1) (turns-done (s .args .m) _ l.a (take (s .args .m) l.scratch) _ _ (c .loop-test .left) (l .inv .3))
 
 pub products-slots-spec : {M : Type 1} → statement M
 products-slots-spec =

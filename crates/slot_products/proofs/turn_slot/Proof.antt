@@ -7,6 +7,29 @@ use Rattle.slot_products.proofs.ProductTurn.{front-length, front-slot, 
 use Rattle.slot_products.proofs.turn_slot.Statement.{statement}
 use Rattle.slot_products.proofs.turn_slot.Tie as tie
 
+-- ---- after each call: the call before it, and the entry
+
+abbrev start : tie.After-copy-behind → tie.Start
+start d = d .before .before .before .before
+
+abbrev behind : tie.After-times-slots → tie.After-copy-behind
+behind d = d .before .before .before .before .before .before
+
+abbrev slots : tie.After-times-slot → tie.After-times-slots
+slots d = d .before .before .before .before .before .before
+
+abbrev slot : tie.After-copy-slot → tie.After-times-slot
+slot d = d .before .before .before .before .before .before
+
+-- the scratch after `copy_behind` has room for a slot, and the work area for the turn's own
+scratch-fits : (d : tie.After-copy-behind) → start d .args .m ≤ length (d .copy-behind .last .1 .0)
+scratch-fits d = omega (arith, start d .pre .1)
+
+own-fits : (s : tie.Start) → s .args .a + s .args .m ≤ length (s .args .work .now)
+own-fits s = omega (arith, s .pre .0)
+
+-- ---- the needs
+
 add-b : tie.Need-add-b
 add-b c = search needs
 
@@ -48,10 +71,8 @@ slice-relend-prefix-times-slot c = search needs
 
 slice-aggregate-times-slot : tie.Need-slice-aggregate-times-slot
 slice-aggregate-times-slot c =
-    let long : c .before .before .before .before .before .before .before .before .before .before .before .before .before .args .m ≤ length
-    (c .before .before .before .before .before .before .before .before .before .copy-behind .last .1 .0) = omega arith in
-    front-length _ (c .before .before .before .before .before .before .before .before .before .copy-behind .last .1 .0)
-    (c .before .before .before .times-slots .last .1 .1 .0) long
+    let d = c .before .before .before in
+    front-length _ (behind d .copy-behind .last .1 .0) (d .times-slots .last .1 .1 .0) (scratch-fits (behind d))
 
 mul-times-slot : tie.Need-mul-times-slot
 mul-times-slot c = search needs
@@ -67,12 +88,8 @@ part-times-slot-end c = search needs
 
 times-slot-requires : tie.Need-times-slot-requires
 times-slot-requires c κs =
-    let start = c .before .before .before .before .before .before .before .before .before .before .before .before .before .before .before in
-    let long : start .args .m ≤ length (c .before .before .before .before .before .before .before .before .before .before .before .copy-behind .last .1 .0) =
-    omega arith in
-    let room : start .args .a + start .args .m ≤ length (start .args .work .now) = omega arith in
-    front-slot _ _ (c .before .before .before .before .before .before .before .before .before .before .before .copy-behind .last .1 .0)
-    (c .before .before .before .before .before .times-slots .last .1 .1 .0) _ long room
+    let d = c .before .before .before .before .before in
+    front-slot _ _ (behind d .copy-behind .last .1 .0) (d .times-slots .last .1 .1 .0) _ (scratch-fits (behind d)) (own-fits (start (behind d)))
 
 mul-copy-slot : tie.Need-mul-copy-slot
 mul-copy-slot c = search needs
@@ -109,13 +126,12 @@ same-length-2 c = search needs
 
 returns : tie.Need-returns
 returns c =
-    let behind = c .before .before .before .before .before .before .before .before .before .before .before .before .before .before .before .before .before
-    .before .before .before in
-    let start = behind .before .before .before .before in
-    turn-done _ _ _ _ _ (start .pre .0) (start .pre .1) _ _ _ _
-    (behind .copy-behind .ensures) (c .before .before .before .before .before .before .before .before .before .before .before .before .before .before
-    .times-slots .ensures) (c .before .before .before .before .before .before .before .before .times-slot .ensures)
-    (c .before .before .copy-slot .ensures)
+    let copied = c .before .before in
+    let once = slot copied in
+    let many = slots once in
+    let s = start (behind many) in
+    turn-done _ _ _ _ _ (s .pre .0) (s .pre .1) _ _ _ _ (behind many .copy-behind .ensures) (many .times-slots .ensures) (once .times-slot .ensures)
+    (copied .copy-slot .ensures)
 
 pub turn-slot-spec : {M : Type 1} → statement M
 turn-slot-spec =

@@ -28,6 +28,44 @@ place : (c : tie.In-loop Inv-loop μ-loop) (i : ℕ) → i < length (start (c .b
     → getD (start (c .before) .args .table .now) i 0 < length (c .before .loop .messages)
 place c i h = omega (arith, table-low _ _ _ i (start (c .before) .pre .1 .1) h, c .before .loop .inv .2)
 
+-- each of the bit's three entries names a place
+at-p : (c : tie.In-loop Inv-loop μ-loop) → getD (start (c .before) .args .table .now) (c .before .loop .a) 0 < length (c .before .loop .messages)
+at-p c = place c (c .before .loop .a) (omega (arith, room c))
+
+at-q : (c : tie.In-loop Inv-loop μ-loop) → getD (start (c .before) .args .table .now) (c .before .loop .a + 1) 0 < length (c .before .loop .messages)
+at-q c = place c (c .before .loop .a + 1) (omega (arith, room c))
+
+at-r : (c : tie.In-loop Inv-loop μ-loop) → getD (start (c .before) .args .table .now) (c .before .loop .a + 2) 0 < length (c .before .loop .messages)
+at-r c = place c (c .before .loop .a + 2) (omega (arith, room c))
+
+-- ---- the turn, from each place in it: once the third entry is read, each answer, the decision, each new message
+
+abbrev entries : tie.After-shared-slice-known6 Inv-loop μ-loop → tie.In-loop Inv-loop μ-loop
+entries d = d .before .before .before .before
+
+abbrev one : tie.After-slice-known3 Inv-loop μ-loop → tie.In-loop Inv-loop μ-loop
+one d = entries (d .before)
+
+abbrev two : tie.After-slice-known4 Inv-loop μ-loop → tie.In-loop Inv-loop μ-loop
+two d = one (d .before)
+
+abbrev three : tie.After-slice-known5 Inv-loop μ-loop → tie.In-loop Inv-loop μ-loop
+three d = two (d .before)
+
+abbrev decided : tie.After-decide Inv-loop μ-loop → tie.In-loop Inv-loop μ-loop
+decided d = three (d .before)
+
+abbrev first-new : tie.After-new-message Inv-loop μ-loop → tie.In-loop Inv-loop μ-loop
+first-new d = decided (d .before)
+
+abbrev second-new : tie.After-new-message2 Inv-loop μ-loop → tie.In-loop Inv-loop μ-loop
+second-new d = first-new (d .before)
+
+abbrev third-new : tie.After-new-message3 Inv-loop μ-loop → tie.In-loop Inv-loop μ-loop
+third-new d = second-new (d .before)
+
+-- ---- the needs
+
 loop-holds : tie.Need-loop-holds Inv-loop μ-loop
 unfolding turns
 loop-holds c = (search needs, search needs, refl, refl, refl)
@@ -72,67 +110,58 @@ cast-r : tie.Need-cast-r Inv-loop μ-loop
 cast-r c = omega (arith, c .shared-slice-known6 .given (c .before .before .before .before .before .loop .a + 2))
 
 mul-x : tie.Need-mul-x Inv-loop μ-loop
-mul-x c = let t = c .before .before .before .before in omega (arith, place t (t .before .loop .a) (omega (arith, room t)))
+mul-x c = omega (arith, at-p (entries c))
 
 slice-read-x : tie.Need-slice-read-x Inv-loop μ-loop
-slice-read-x c = let t = c .before .before .before .before .before in place t (t .before .loop .a) (omega (arith, room t))
+slice-read-x c = at-p (one c)
 
 mul-y : tie.Need-mul-y Inv-loop μ-loop
-mul-y c = let t = c .before .before .before .before .before in omega (arith, place t (t .before .loop .a + 1) (omega (arith, room t)))
+mul-y c = omega (arith, at-q (one c))
 
 slice-read-y : tie.Need-slice-read-y Inv-loop μ-loop
-slice-read-y c = let t = c .before .before .before .before .before .before in place t (t .before .loop .a + 1) (omega (arith, room t))
+slice-read-y c = at-q (two c)
 
 mul-z : tie.Need-mul-z Inv-loop μ-loop
-mul-z c = let t = c .before .before .before .before .before .before in omega (arith, place t (t .before .loop .a + 2) (omega (arith, room t)))
+mul-z c = omega (arith, at-r (two c))
 
 slice-read-z : tie.Need-slice-read-z Inv-loop μ-loop
-slice-read-z c = let t = c .before .before .before .before .before .before .before in place t (t .before .loop .a + 2) (omega (arith, room t))
+slice-read-z c = at-r (three c)
 
 decide-requires : tie.Need-decide-requires Inv-loop μ-loop
 decide-requires c κs = search needs
 
 slice-write-hard : tie.Need-slice-write-hard Inv-loop μ-loop
-slice-write-hard c = let t = c .before .before .before .before .before .before .before .before in omega
-    (arith, t .before .loop .inv .3, start (t .before) .pre .1 .0, t .loop-test .taken)
+slice-write-hard c = let i = decided c in omega (arith, i .before .loop .inv .3, start (i .before) .pre .1 .0, i .loop-test .taken)
 
 new-message-requires : tie.Need-new-message-requires Inv-loop μ-loop
 new-message-requires c κs = search needs
 
 mul-messages : tie.Need-mul-messages Inv-loop μ-loop
-mul-messages c = let t = c .before .before .before .before .before .before .before .before .before in omega
-    (arith, place t (t .before .loop .a) (omega (arith, room t)))
+mul-messages c = omega (arith, at-p (first-new c))
 
 slice-write-messages : tie.Need-slice-write-messages Inv-loop μ-loop
-slice-write-messages c = let t = c .before .before .before .before .before .before .before .before .before in place t (t .before .loop .a)
-    (omega (arith, room t))
+slice-write-messages c = at-p (first-new c)
 
 new-message-requires-2 : tie.Need-new-message-requires-2 Inv-loop μ-loop
 new-message-requires-2 c κs = search needs
 
 mul-messages-2 : tie.Need-mul-messages-2 Inv-loop μ-loop
-mul-messages-2 c = let t = c .before .before .before .before .before .before .before .before .before .before in omega
-    (arith, place t (t .before .loop .a + 1) (omega (arith, room t)))
+mul-messages-2 c = omega (arith, at-q (second-new c))
 
 slice-write-messages-2 : tie.Need-slice-write-messages-2 Inv-loop μ-loop
-slice-write-messages-2 c =
-    let t = c .before .before .before .before .before .before .before .before .before .before in
-    simp length-set (place t (t .before .loop .a + 1) (omega (arith, room t)))
+slice-write-messages-2 c = simp length-set (at-q (second-new c))
 
 new-message-requires-3 : tie.Need-new-message-requires-3 Inv-loop μ-loop
 new-message-requires-3 c κs = search needs
 
 mul-messages-3 : tie.Need-mul-messages-3 Inv-loop μ-loop
-mul-messages-3 c = let t = c .before .before .before .before .before .before .before .before .before .before .before in omega
-    (arith, place t (t .before .loop .a + 2) (omega (arith, room t)))
+mul-messages-3 c = omega (arith, at-r (third-new c))
 
 slice-write-messages-3 : tie.Need-slice-write-messages-3 Inv-loop μ-loop
-slice-write-messages-3 c =
-    let t = c .before .before .before .before .before .before .before .before .before .before .before in
-    simp length-set (place t (t .before .loop .a + 2) (omega (arith, room t)))
+slice-write-messages-3 c = simp length-set (at-r (third-new c))
 
 add-a : tie.Need-add-a Inv-loop μ-loop
-add-a c = omega (arith, room (c .before .before .before .before .before .before .before .before .before .before .before))
+add-a c = omega (arith, room (third-new c))
 
 add-b : tie.Need-add-b Inv-loop μ-loop
 add-b c = search needs
@@ -146,15 +175,15 @@ loop-again c =
     let second = c .before in
     let first = second .before in
     let bit = first .before in
-    let t = bit .before .before .before .before .before .before .before .before in
-    let l = t .before in (
+    let i = decided bit in
+    let l = i .before .loop in (
       omega arith,
-      omega (arith, l .loop .inv .1),
-      simp length-set (l .loop .inv .2),
-      simp length-set (l .loop .inv .3),
-      listed-more _ _ _ (l .loop .b) (l .loop .a) (l .loop .inv .1) (room t) _ _ _ _ _ _ _ (l .loop .inv .4) (bit .decide .ensures)
-          (first .new-message .ensures)
-          (second .new-message2 .ensures) (c .new-message3 .ensures),
+      omega (arith, l .inv .1),
+      simp length-set (l .inv .2),
+      simp length-set (l .inv .3),
+      listed-more _ _ _ l.b l.a (l .inv .1) (room i) _ _ _ _ _ _ _ (l .inv .4) (bit .decide .ensures) (first .new-message .ensures)
+          (second .new-message2 .ensures)
+          (c .new-message3 .ensures),
     )
 
 same-length : tie.Need-same-length Inv-loop μ-loop

@@ -24,6 +24,21 @@ place : (c : tie.In-loop Inv-loop μ-loop) (i : ℕ) → i < length (c .before .
     → getD (c .before .before .args .table .now) i 0 < length (c .before .loop .messages)
 place c i h = omega (arith, table-low _ _ _ i (c .before .before .pre .1) h, c .before .loop .inv .2)
 
+at-p : (c : tie.In-loop Inv-loop μ-loop) → getD (c .before .before .args .table .now) (c .before .loop .a) 0 < length (c .before .loop .messages)
+at-p c = place c (c .before .loop .a) (omega (arith, room c))
+
+at-q : (c : tie.In-loop Inv-loop μ-loop) → getD (c .before .before .args .table .now) (c .before .loop .a + 1) 0 < length (c .before .loop .messages)
+at-q c = place c (c .before .loop .a + 1) (omega (arith, room c))
+
+at-r : (c : tie.In-loop Inv-loop μ-loop) → getD (c .before .before .args .table .now) (c .before .loop .a + 2) 0 < length (c .before .loop .messages)
+at-r c = place c (c .before .loop .a + 2) (omega (arith, room c))
+
+-- the turn, once the third entry is read
+abbrev entries : tie.After-shared-slice-known4 Inv-loop μ-loop → tie.In-loop Inv-loop μ-loop
+entries d = d .before .before .before .before
+
+-- ---- the needs
+
 loop-holds : tie.Need-loop-holds Inv-loop μ-loop
 unfolding turns
 loop-holds c = (search needs, search needs, refl, refl)
@@ -68,29 +83,25 @@ cast-r : tie.Need-cast-r Inv-loop μ-loop
 cast-r c = omega (arith, c .shared-slice-known4 .given (c .before .before .before .before .before .loop .a + 2))
 
 mul-messages : tie.Need-mul-messages Inv-loop μ-loop
-mul-messages c = let t = c .before .before .before .before in omega (arith, place t (t .before .loop .a) (omega (arith, room t)))
+mul-messages c = omega (arith, at-p (entries c))
 
 slice-write-messages : tie.Need-slice-write-messages Inv-loop μ-loop
-slice-write-messages c = let t = c .before .before .before .before in place t (t .before .loop .a) (omega (arith, room t))
+slice-write-messages c = at-p (entries c)
 
 mul-messages-2 : tie.Need-mul-messages-2 Inv-loop μ-loop
-mul-messages-2 c = let t = c .before .before .before .before in omega (arith, place t (t .before .loop .a + 1) (omega (arith, room t)))
+mul-messages-2 c = omega (arith, at-q (entries c))
 
 slice-write-messages-2 : tie.Need-slice-write-messages-2 Inv-loop μ-loop
-slice-write-messages-2 c =
-    let t = c .before .before .before .before in
-    simp length-set (place t (t .before .loop .a + 1) (omega (arith, room t)))
+slice-write-messages-2 c = simp length-set (at-q (entries c))
 
 mul-messages-3 : tie.Need-mul-messages-3 Inv-loop μ-loop
-mul-messages-3 c = let t = c .before .before .before .before in omega (arith, place t (t .before .loop .a + 2) (omega (arith, room t)))
+mul-messages-3 c = omega (arith, at-r (entries c))
 
 slice-write-messages-3 : tie.Need-slice-write-messages-3 Inv-loop μ-loop
-slice-write-messages-3 c =
-    let t = c .before .before .before .before in
-    simp length-set (place t (t .before .loop .a + 2) (omega (arith, room t)))
+slice-write-messages-3 c = simp length-set (at-r (entries c))
 
 add-a : tie.Need-add-a Inv-loop μ-loop
-add-a c = let t = c .before .before .before .before in omega (arith, room t)
+add-a c = omega (arith, room (entries c))
 
 add-b : tie.Need-add-b Inv-loop μ-loop
 add-b c = search needs
@@ -100,13 +111,9 @@ loop-less c = search needs
 
 loop-again : tie.Need-loop-again Inv-loop μ-loop
 loop-again c =
-    let t = c .before .before .before .before in
-    let l = t .before in (
-      omega arith,
-      omega (arith, l .loop .inv .1),
-      simp length-set (l .loop .inv .2),
-      listed-first-more _ _ (l .loop .b) (l .loop .a) _ _ (l .loop .inv .1) (room t) (l .loop .inv .3),
-    )
+    let i = entries c in
+    let l = i .before .loop in
+    (omega arith, omega (arith, l .inv .1), simp length-set (l .inv .2), listed-first-more _ _ l.b l.a _ _ (l .inv .1) (room i) (l .inv .3))
 
 same-length : tie.Need-same-length Inv-loop μ-loop
 same-length c = search needs
