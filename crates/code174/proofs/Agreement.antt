@@ -132,7 +132,8 @@ module _ (c i : ℕ) (h : c < 83) (l : i < 7) where
       let there = Bool·beq (ltb i (getD numRows c 0)) (ltb 0 (nmAt c i)) in
       let low = ltb (nmAt c i) 175 in
       let both : (there && low) ≡ true = each-at 7 _ (row-at c h) i l in
-      (beq-same (ltb i (getD numRows c 0)) (ltb 0 (nmAt c i)) (and-elim-left there low both), omega (arith, ltb-true (nmAt c i) 175 (and-elim-right there low both)))
+      let small = ltb-true (nmAt c i) 175 (and-elim-right there low both) in
+      (beq-same (ltb i (getD numRows c 0)) (ltb 0 (nmAt c i)) (and-elim-left there low both), omega (arith, small))
 
 module _ (p : ℕ) (h : p < 174) where
   abbrev lower : Bool

@@ -1,5 +1,5 @@
 -- A check step is the same taken in three parts, and keeps the number of messages at any degree: by induction over the messages. Assumes nothing.
-use mathlib.Core.Path.{_≡_, refl, ap, _∙_}
+use mathlib.Core.Path.{_≡_, refl, sym, ap, _∙_}
 use mathlib.Core.Bool.{Bool, true, false, not}
 use mathlib.Core.List.{List, [], _∷_, _++_, map}
 use Prim.Native.Nat.{ℕ, suc}
@@ -97,8 +97,6 @@ pub after-length : (rule : DecodeRule) (ps : List Float) → length (map (after 
 after-length rule ps = length-map ps (after rule)
 
 pub step-length : (rule : DecodeRule) (ms : List Float) → length (checkStep rule ms) ≡ length ms
-unfolding checkStep
-step-length SumProduct ms = each-length _ ms
-step-length MinSum ms = min-length _ ms
-step-length (ScaledMinSum scale) ms = min-length scale ms
-step-length Ft8 ms = each-length _ ms
+step-length rule ms =
+    let befores = map (before rule) ms in
+    ap length (sym (step-parts rule ms)) ∙ after-length rule (middle rule befores) ∙ middle-length rule befores ∙ before-length rule ms

@@ -33,8 +33,9 @@ loop-less c = search needs
 
 loop-again : tie.Need-loop-again Inv-loop μ-loop
 loop-again c =
-    let start = c .before .before .before in
-    (search needs, search needs, front-more (now (start .args .src)) 0 (now (start .args .dst)) _ _ (omega arith) (omega arith) (c .before .before .loop .inv .2))
+    let at = c .before .before in
+    let a = at .before .args in
+    (search needs, search needs, front-more (now (a .src)) 0 (now (a .dst)) _ _ (omega arith) (omega arith) (at .loop .inv .2))
 
 same-length : tie.Need-same-length Inv-loop μ-loop
 same-length c = search needs

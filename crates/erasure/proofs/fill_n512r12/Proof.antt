@@ -34,7 +34,8 @@ returns c =
     let a = done .before .before .before .before .before .before .before .args in
     let w = a .word .now in
     let l = a .places .now in
-    at-checks _ _ (staircase-rows n512r12 checkStarts0 checkBits0 (check-starts-right laid0) (check-bits-right laid0)) (erasureRefusals 0 w l) w l (done .fill-over .ensures)
+    let rows = staircase-rows n512r12 checkStarts0 checkBits0 (check-starts-right laid0) (check-bits-right laid0) in
+    at-checks _ _ rows (erasureRefusals 0 w l) w l (done .fill-over .ensures)
 
 pub fill-n512r12-spec : {M : Type 1} → statement M
 fill-n512r12-spec =

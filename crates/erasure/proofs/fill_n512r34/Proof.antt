@@ -34,7 +34,8 @@ returns c =
     let a = done .before .before .before .before .before .before .before .args in
     let w = a .word .now in
     let l = a .places .now in
-    at-checks _ _ (staircase-rows n512r34 checkStarts2 checkBits2 (check-starts-right laid2) (check-bits-right laid2)) (erasureRefusals 2 w l) w l (done .fill-over .ensures)
+    let rows = staircase-rows n512r34 checkStarts2 checkBits2 (check-starts-right laid2) (check-bits-right laid2) in
+    at-checks _ _ rows (erasureRefusals 2 w l) w l (done .fill-over .ensures)
 
 pub fill-n512r34-spec : {M : Type 1} → statement M
 fill-n512r34-spec =

@@ -34,7 +34,8 @@ returns c =
     let a = done .before .before .before .before .before .before .before .args in
     let w = a .word .now in
     let l = a .places .now in
-    at-checks _ _ (staircase-rows n576r23 checkStarts1 checkBits1 (check-starts-right laid1) (check-bits-right laid1)) (erasureRefusals 1 w l) w l (done .fill-over .ensures)
+    let rows = staircase-rows n576r23 checkStarts1 checkBits1 (check-starts-right laid1) (check-bits-right laid1) in
+    at-checks _ _ rows (erasureRefusals 1 w l) w l (done .fill-over .ensures)
 
 pub fill-n576r23-spec : {M : Type 1} → statement M
 fill-n576r23-spec =

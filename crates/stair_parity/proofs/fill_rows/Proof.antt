@@ -43,7 +43,9 @@ bit-before-requires : tie.Need-bit-before-requires Inv-loop μ-loop
 bit-before-requires c κs = let s = c .before .before .before in omega (arith, s .pre .room)
 
 mul-a : tie.Need-mul-a Inv-loop μ-loop
-mul-a c = let s = c .before .before .before .before in omega (arith, s .pre .size, mul-le-mul-right (s .args .width) (le-add-right (s .args .first) (s .args .n)))
+mul-a c =
+    let s = c .before .before .before .before in
+    omega (arith, s .pre .size, mul-le-mul-right (s .args .width) (le-add-right (s .args .first) (s .args .n)))
 
 loop-holds : tie.Need-loop-holds Inv-loop μ-loop
 loop-holds c =
