@@ -64,10 +64,10 @@ fn batch(code: usize, rule: u32, values: &[f32], frames: usize, work: &mut [f32]
 #[test]
 fn batches() {
     let random = &mut Random(0x4D58);
-    for code in 0..4 {
+    for (code, &(n, _)) in SIZES.iter().enumerate() {
         for rule in 0..5 {
             for exponent in [-45, -44, -42, -40, -38, -37, -30, -20, -10, -3, 0, 1, 5, 10, 20, 37, 38] {
-                let values = values(random, 4 * SIZES[code].0, exponent);
+                let values = values(random, 4 * n, exponent);
                 let mut work = vec![0.0; slices::WORK];
                 let expected = batch(code, rule, &values, 4, &mut work);
                 for word in words() {
@@ -84,8 +84,7 @@ fn single_decodes() {
     let random = &mut Random(0x4D59);
     for exponent in [-45, -41, -38, -20, 0, 20, 38] {
         let mut work = vec![0.0; slices::WORK];
-        for code in 0..3 {
-            let (n, k) = SIZES[code];
+        for (code, &(n, k)) in SIZES.iter().enumerate().take(3) {
             let llr = values(random, n, exponent);
             let mut decode = |rule| {
                 let mut bits = vec![9; k];
