@@ -4,7 +4,6 @@ Run in the repository's root: python3 -B tests/tidy.py
 """
 import os
 import re
-import subprocess
 import unittest
 
 DOCUMENTS = ["README.md", "docs/GUIDE.md", "docs/DECISIONS.md", "docs/DIFFERENCES.md", "docs/PERFORMANCE.md", "docs/RANGE.md"]
@@ -14,7 +13,12 @@ LINE = 160
 
 
 def files():
-    return subprocess.run(["git", "ls-files"], capture_output=True, text=True, check=True).stdout.split()
+    """Every file but those that a check makes."""
+    found = []
+    for folder, below, names in os.walk("."):
+        below[:] = [name for name in below if name not in (".git", "target", "__pycache__")]
+        found += [os.path.relpath(os.path.join(folder, name)) for name in names]
+    return found
 
 
 def text(path):
@@ -23,7 +27,7 @@ def text(path):
 
 
 class Tree:
-    """The tracked files, their folders, and the words of those that are sources."""
+    """The files, their folders, and the words of those that are sources."""
 
     def __init__(self):
         self.paths = set(files())
