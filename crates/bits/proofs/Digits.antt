@@ -108,6 +108,17 @@ number-append a (x ∷ xs) ys = number-append (a * 2 + x) xs ys
 abbrev pub Bytes : List ℕ → Type 0
 Bytes m = (i : ℕ) → getD m i 0 < 256
 
+pub bytes-take : (n : ℕ) (m : List ℕ) → Bytes m → Bytes (take n m)
+bytes-take zero m h i = omega arith
+bytes-take (suc n) [] h i = h i
+bytes-take (suc n) (x ∷ m) h zero = h 0
+bytes-take (suc n) (x ∷ m) h (suc i) = bytes-take n m (λ k. h (suc k)) i
+
+pub bytes-append : (xs ys : List ℕ) → Bytes xs → Bytes ys → Bytes (xs ++ ys)
+bytes-append [] ys h k i = k i
+bytes-append (x ∷ xs) ys h k zero = h 0
+bytes-append (x ∷ xs) ys h k (suc i) = bytes-append xs ys (λ j. h (suc j)) k i
+
 -- packing gives bytes back
 pub packed-bits : (xs ys : List ℕ) (k : ℕ) → Bytes xs → packed (length xs + k) (bits xs ++ ys) ≡ xs ++ packed k ys
 unfolding packed bits

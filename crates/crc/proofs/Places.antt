@@ -16,7 +16,8 @@ use Rattle.checksum.specs.Register.{crc14, unused}
 use Rattle.checksum.proofs.Agreement.{register-qex}
 use Rattle.bits.proofs.AreBits.{areBits-append, areBits-take, zeros-are}
 use Rattle.checksum.proofs.Division.{qex-lt}
-use Rattle.bits.proofs.Digits.{Bytes, bits-are, bits-length, bits-append, take-upper, bitsOf-split, number-bits, number-append, packed-bits}
+use Rattle.bits.proofs.Digits.{Bytes, bytes-take, bytes-append, bits-are, bits-length, bits-append}
+use Rattle.bits.proofs.Digits.{take-upper, bitsOf-split, number-bits, number-append, packed-bits}
 
 -- the low three bits of a byte cleared
 cleared : (x : ℕ) → x < 256 → bitAnd x 0xF8 ≡ x / 8 * 8
@@ -171,17 +172,6 @@ laid-set p a l ep ea e =
     ∙ ap (λ (x : List ℕ). set (set x 10 0) 11 0) (set-past t nine 0 y (getD a 9 0 ∷ getD a 10 0 ∷ getD a 11 0 ∷ []))
     ∙ ap (λ (x : List ℕ). set x 11 0) (set-past t nine 1 0 (y ∷ getD a 10 0 ∷ getD a 11 0 ∷ []))
     ∙ set-past t nine 2 0 (y ∷ 0 ∷ getD a 11 0 ∷ [])
-
-bytes-take : (n : ℕ) (m : List ℕ) → Bytes m → Bytes (take n m)
-bytes-take zero m h i = omega arith
-bytes-take (suc n) [] h i = h i
-bytes-take (suc n) (x ∷ m) h zero = h 0
-bytes-take (suc n) (x ∷ m) h (suc i) = bytes-take n m (λ k. h (suc k)) i
-
-bytes-append : (xs ys : List ℕ) → Bytes xs → Bytes ys → Bytes (xs ++ ys)
-bytes-append [] ys h k i = k i
-bytes-append (x ∷ xs) ys h k zero = h 0
-bytes-append (x ∷ xs) ys h k (suc i) = bytes-append xs ys (λ j. h (suc j)) k i
 
 module _ (p : List ℕ) (size : length p ≡ 10) (bytes : Bytes p) where
   front : length (take 9 p) ≡ 9

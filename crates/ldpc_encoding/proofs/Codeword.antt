@@ -8,10 +8,10 @@ use native.Mathlib.Decide.{decLt, ℕ-discrete}
 use native.Mathlib.Omega.{arith}
 use borrow.Author.Tests.{lt-ltb, le-ltb, eq-eqb, ne-eqb}
 use lib.Bits.{bitOr, or-shifted}
-use lib.ListN.{length, getD, take, drop, replicate, length-append, length-take, List·getD-append, List·getD-eq-default, take-append-drop, drop-of-length-le}
+use lib.ListN.{length, getD, take, drop, replicate, length-append, List·getD-append, take-append-drop, drop-of-length-le}
 use lib.Seq.{take-at, drop-at, drop-append-add, getD-take, drop-cons, length-take-le, drop-drop, take-all}
 use Rattle.bits.specs.Bits.{bitsOf, bits, numberAfter, number, packed}
-use Rattle.bits.proofs.Digits.{Bytes, bits-length, bits-append, bitsOf-split, number-bits, number-append, packed-bits}
+use Rattle.bits.proofs.Digits.{Bytes, bytes-take, bits-length, bits-append, bitsOf-split, number-bits, number-append, packed-bits}
 use Rattle.ldpc_encoding.specs.Bytes.{parityAt, gathered, codeByte}
 use Rattle.ldpc_encoding.specs.Encoding.{parityBits, encodeBits, codewordOf}
 use Rattle.ldpc_encoding.specs.Tables.{generator}
@@ -64,13 +64,6 @@ pair-up a b c d = simp append-assoc
 generator-size : length generator ≡ 996
 unfolding generator
 generator-size = refl
-
-bytes-take : (n : ℕ) (m : List ℕ) → Bytes m → Bytes (take n m)
-bytes-take n m bytes i = by (decLt i n)
-  where
-    by : Dec (i < n) → getD (take n m) i 0 < 256
-    by (yes h) = rw (getD-take n m i 0 h) (bytes i)
-    by (no h) = rw (List·getD-eq-default (take n m) 0 {n = i} (rw (length-take n m) (omega arith))) (omega arith)
 
 -- a message of twelve bytes whose last five bits are zero
 module _ (m : List ℕ) (size : length m ≡ 12) (bytes : Bytes m) (slack : getD m 11 0 % 32 ≡ 0) where
