@@ -21,8 +21,7 @@ sums-assoc a b c =
       add-assoc (a .frames) (b .frames) (c .frames),
       add-assoc (a .clean) (b .clean) (c .clean),
       add-assoc (a .counts) (b .counts) (c .counts),
-      add-assoc
-          (a .rounds) (b .rounds) (c .rounds),
+      add-assoc (a .rounds) (b .rounds) (c .rounds),
     )
 
 pub sums-nothing : (a : Totals) → sums nothingYet a ≡ a
@@ -35,8 +34,7 @@ joined-further a b c =
       add-assoc (a .frames) (b .frames) (c .frames),
       add-assoc (a .clean) (b .clean) (c .clean),
       add-assoc (a .counts) (b .counts) (c .counts),
-      add-assoc
-          (a .rounds) (b .rounds) (c .rounds),
+      add-assoc (a .rounds) (b .rounds) (c .rounds),
     )
 
 pub nothing-added : (a : Totals) → sums a nothingYet ≡ a
