@@ -1,6 +1,5 @@
 -- Counting by the rows of `NM`: a turn of each loop, a table of rows in parts, and that over a word with a byte 0 before it the rows count what the checks
--- count
--- over the word. The last by one computed test: the rows' positions, counted from 0, are the checks'. Assumes nothing else.
+-- count over the word. The last by one computed test: the rows' positions, counted from 0, are the checks'. Assumes nothing else.
 use mathlib.Core.Path.{_≡_, refl, ap, _∙_}
 use mathlib.Core.Bool.{Bool, true, false, cond}
 use mathlib.Core.List.{List, [], _∷_, map}
@@ -11,11 +10,10 @@ use borrow.Author.Tests.{ltb-true}
 use lib.Bits.{bitXor, bitAnd, xor-zero-r}
 use lib.Dec.{eqb, ltb}
 use lib.ListN.{length, getD, take, drop}
-use lib.Seq.{take-take, drop-drop}
+use lib.Seq.{drop-drop}
 use Rattle.tanner.specs.Checks.{Checks, xorFrom, nonzero, firstBy}
 use Rattle.tanner.specs.Masked.{countMasked, measured, firstMasked}
 use Rattle.lists.specs.Below.{Below}
-use Rattle.lists.proofs.Below.{below-part}
 use Rattle.code174.specs.Agreement.{each}
 use Rattle.code174.specs.Code174.{rowsOfSeven, checks}
 use Rattle.ldpc.specs.Rows.{Rows, sevens, fromOne}
@@ -89,7 +87,7 @@ module _ (mask : ℕ) (p : List ℕ) (n : length p ≡ 175) (z : getD p 0 0 ≡ 
 -- ---- in parts
 
 -- the first n rows, and the rest
-pub count-parts : (mask : ℕ) (bytes : List ℕ) (n k : ℕ) (t : List ℕ) → countMasked mask (sevens (n + k) t) bytes ≡ countMasked mask
+count-parts : (mask : ℕ) (bytes : List ℕ) (n k : ℕ) (t : List ℕ) → countMasked mask (sevens (n + k) t) bytes ≡ countMasked mask
     (sevens n t) bytes + countMasked mask (sevens k (drop (n * 7) t)) bytes
 unfolding countMasked sevens
 count-parts mask bytes zero k t =
@@ -100,32 +98,13 @@ count-parts mask bytes (suc n) k t =
     let d : suc n * 7 ≡ 7 + n * 7 = omega arith in
     rw (s, d, ← drop-drop (n * 7) 7 t) (omega (arith, count-parts mask bytes n k (drop 7 t)))
 
--- a part as long as its rows
-dropped : (k n : ℕ) (t : List ℕ) → drop k (take n t) ≡ take (n - k) (drop k t)
-dropped zero n t = let e : n - 0 ≡ n = omega arith in rw e
-dropped (suc k) zero t = let e : 0 - suc k ≡ 0 = omega arith in rw e
-dropped (suc k) (suc n) [] = none-taken (suc n - suc k)
-  where
-    none-taken : (i : ℕ) → [] ≡ take {A = ℕ} i []
-    none-taken zero = refl
-    none-taken (suc i) = refl
-dropped (suc k) (suc n) (x ∷ t) = let e : suc n - suc k ≡ n - k = omega arith in rw e (dropped k n t)
-
-front-rows : (n k : ℕ) (t : List ℕ) → n * 7 ≤ k → sevens n (take k t) ≡ sevens n t
-unfolding sevens
-front-rows zero k t h = refl
-front-rows (suc n) k t h =
-    let l : 7 ≤ k = omega arith in
-    rw (take-take 7 k t l, dropped 7 k t, front-rows n (k - 7) (drop 7 t) (omega arith))
-
 module _ (mask : ℕ) (bytes : List ℕ) where
-  pub first-rows : (k r : ℕ) → r ≡ countMasked mask (sevens k (take (k * 7) (drop 0 nm))) bytes → r ≡ countMasked mask (sevens k nm) bytes
-  first-rows k r e = e ∙ ap (λ (cs : Checks). countMasked mask cs bytes) (front-rows k (k * 7) nm (omega arith))
-
-  pub rows-and : (j k s r : ℕ) → s ≡ countMasked mask (sevens j nm) bytes → r ≡ countMasked mask (sevens k (take (k * 7) (drop (j * 7) nm))) bytes
-      → s + r ≡ countMasked mask (sevens (j + k) nm) bytes
-  rows-and j k s r e f =
-      rw (count-parts mask bytes j k nm, e, f) (rw (front-rows k (k * 7) (drop (j * 7) nm) (omega arith)) refl)
+  -- the rows before `first` and those from there on
+  pub rows-after : (first end n : ℕ) (t : List ℕ) → n ≡ countMasked mask (sevens first t) bytes → first ≤ end
+      → n + countMasked mask (sevens (end - first) (drop (first * 7) t)) bytes ≡ countMasked mask (sevens end t) bytes
+  rows-after first end n t e h =
+      let s : first + (end - first) ≡ end = omega arith in
+      rw (e, ← count-parts mask bytes first (end - first) t, s)
 
   bit : (b : Bool) → cond b 0 1 ≤ 1
   bit true = omega arith
@@ -140,11 +119,6 @@ module _ (mask : ℕ) (bytes : List ℕ) where
 nm-low : Below 175 nm
 unfolding Below each nm
 nm-low k h = ltb-true _ _ (each-at 581 (λ (i : ℕ). ltb (getD nm i 0) 175) refl k h)
-
-pub nm-part : (a k n : ℕ) → length (take (k * 7) (drop a nm)) ≡ k * 7 → k < 65536 → n ≡ 175 → Rows k (take (k * 7) (drop a nm)) n
-nm-part a k n size few e =
-    let s : a + k * 7 - a ≡ k * 7 = omega arith in
-    record { size = size; low = rw (e, ← s) (below-part 175 nm a (a + k * 7) nm-low); few = few }
 
 pub nm-whole : (n : ℕ) → n ≡ 175 → Rows 83 nm n
 unfolding nm

@@ -5,7 +5,7 @@ use tanner::Counting;
 use tanner::FirstCheck;
 ghost use mathlib.Core.Path.{_≡_};
 ghost use mathlib.Core.List.{_∷_};
-ghost use Prim.Native.Nat.{_<_};
+ghost use Prim.Native.Nat.{_<_, _≤_};
 ghost use lib.ListN.{length, getD, drop};
 ghost use Rattle.refusal.specs.Outcome.{judged};
 ghost use Rattle.tanner.specs.Checks.{xorFrom, syndromeOfBytes};
@@ -69,15 +69,17 @@ fn xor_row(row: &[u8], padded: &[u8]) -> u8
     x
 }
 
-// How many of a table's rows of seven have a bit of the mask in their bytes XORed whole.
-fn count_rows(rows: usize, table: &[u8], padded: &[u8], mask: u8) -> u16
-    requires { ⌜ Rows rows (now table) (length (now padded)) ⌝ }
-    ensures { λ r. ⌜ r ≡ countMasked mask (sevens rows (now (table .entry))) (now (padded .entry)) ⌝ }
+// How many of a table's rows up to `end` have a bit of the mask in their bytes XORed whole; `before` is that number for the rows up to `first`.
+fn count_rows(first: usize, end: usize, before: u16, table: &[u8], padded: &[u8], mask: u8) -> u16
+    requires { ⌜ Rows 83 (now table) (length (now padded)) ⌝ }
+    requires { ⌜ (first ≤ end) × (end ≤ 83) ⌝ }
+    requires { ⌜ before ≡ countMasked mask (sevens first (now table)) (now padded) ⌝ }
+    ensures { λ r. ⌜ r ≡ countMasked mask (sevens end (now (table .entry))) (now (padded .entry)) ⌝ }
 {
-    let mut count: u16 = 0;
-    let mut c = 0;
-    let mut a = 0;
-    while c < rows {
+    let mut count = before;
+    let mut a = first * 7;
+    let mut c = first;
+    while c < end {
         let b = a + 7;
         if xor_row(&table[a..b], padded) & mask != 0 {
             count += 1;
@@ -94,15 +96,14 @@ fn count_word(padded: &[u8], mask: u8) -> u16
     ensures { λ r. ⌜ r ≡ countMasked mask (sevens 83 nm) (now (padded .entry)) ⌝ }
 {
     let nm = tables::NM;
-    let mut n = count_rows(11, &nm[0..77], padded, mask);
-    n += count_rows(11, &nm[77..154], padded, mask);
-    n += count_rows(11, &nm[154..231], padded, mask);
-    n += count_rows(11, &nm[231..308], padded, mask);
-    n += count_rows(11, &nm[308..385], padded, mask);
-    n += count_rows(11, &nm[385..462], padded, mask);
-    n += count_rows(11, &nm[462..539], padded, mask);
-    n += count_rows(6, &nm[539..581], padded, mask);
-    n
+    let mut n = count_rows(0, 11, 0, &nm, padded, mask);
+    n = count_rows(11, 22, n, &nm, padded, mask);
+    n = count_rows(22, 33, n, &nm, padded, mask);
+    n = count_rows(33, 44, n, &nm, padded, mask);
+    n = count_rows(44, 55, n, &nm, padded, mask);
+    n = count_rows(55, 66, n, &nm, padded, mask);
+    n = count_rows(66, 77, n, &nm, padded, mask);
+    count_rows(77, 83, n, &nm, padded, mask)
 }
 
 // The first row that the mask counts: the scan ends there.
