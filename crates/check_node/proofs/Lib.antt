@@ -1,4 +1,3 @@
-pub mod TimesOne
 pub mod Pads
 pub mod PadsSet
 pub mod Steps

@@ -16,11 +16,11 @@ use Rattle.by_others.specs.Others.{lesserOf, turnedBy, othersSum}
 use Rattle.softmath.specs.declared.DecodeRule.{DecodeRule}
 use Rattle.softmath.specs.declared.DecodeRule.the-variants.{SumProduct, MinSum, ScaledMinSum, Ft8}
 use Rattle.softmath.proofs.Floats.{fold-fits}
+use Rattle.softmath.proofs.Unrounded.{times-one}
 use Rattle.softmath.proofs.Steps.{map-same, step-parts}
 use Rattle.softmath.proofs.LeaveOneOut.{carriedFrom, fold-append, prefix-shared}
 use Rattle.by_others.proofs.ByOthers.{answersFrom, others-shared, same-answers}
 use Rattle.check_node.specs.CheckStep.{padOf}
-use Rattle.check_node.proofs.TimesOne.{times-one}
 
 -- ---- the messages that a pad is: its tanh is 1.0
 

@@ -15,7 +15,6 @@ use Rattle.slots.specs.Columns.{column}
 use Rattle.slots.specs.Layout.{scattered}
 use Rattle.slots.proofs.Columns.{column-map}
 use Rattle.slots.proofs.Scattered.{scattered-length}
-use Rattle.slot_products.specs.Products.{ByColumns}
 use Rattle.check_node.specs.CheckStep.{AtColumns, padOf}
 
 -- the three passes are the step
@@ -28,7 +27,7 @@ step-columns rule m d w u room wide h c l =
     ∙ step-parts rule (column m d c w)
 
 pub three-passes : (rule : DecodeRule) (m d : ℕ) (w w1 u v : List Float) → ((ts : List Float) → middle rule ts ≡ atEach product ts)
-    → length w ≡ d * m → w1 ≡ map (before rule) w → ByColumns m d w1 u → v ≡ map (after rule) u → AtColumns (checkStep rule) m d w v
+    → length w ≡ d * m → w1 ≡ map (before rule) w → AtColumns (atEach product) m d w1 u → v ≡ map (after rule) u → AtColumns (checkStep rule) m d w v
 three-passes rule m d w w1 u v mul room e1 b e2 =
     let wide : length u ≡ length w = b .size ∙ ap length e1 ∙ length-map w (before rule) in
     let together : (c : ℕ) → c < m → column m d c u ≡ middle rule (column m d c (map (before rule) w)) =

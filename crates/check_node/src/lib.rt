@@ -1,8 +1,8 @@
 // The check step of every check of a code at once, over messages that lie by slots: with m checks of d entries each, entry j of check c lies at
-// place j * m + c, and slot j is the part from j * m to (j + 1) * m. The pads are set, and then the rule's products or minima are called.
+// place j * m + c. The pads are set, and then the rule's products or minima are called.
 ghost use mathlib.Core.Path.{_≡_};
 ghost use mathlib.Core.List.{List};
-ghost use Prim.Native.Nat.{_*_, _≤_};
+ghost use Prim.Native.Nat.{_*_};
 ghost use lib.Ieee.{Float};
 ghost use lib.ListN.{length};
 ghost use Rattle.lists.specs.Below.{Below};
@@ -44,19 +44,16 @@ fn pad_of(rule: DecodeRule) -> f32
 fn product_step(rule: DecodeRule, m: usize, d: usize, work: &mut [f32])
     requires { ⌜ ((ts : List Float) → middle rule ts ≡ atEach product ts) ⌝ }
     requires { ⌜ length (now work) ≡ d * m ⌝ }
-    requires { ⌜ m ≤ 256 ⌝ }
     ensures { λ _. ⌜ AtColumns (checkStep rule) m d (now (work .entry)) (now (work .exit)) ⌝ }
 {
-    let mut scratch = [0.0f32; 512];
     each_message::before_checks(rule, work);
-    slot_products::products_slots(m, d, work, &mut scratch);
+    slot_products::products_slots(m, d, work);
     each_message::after_checks(rule, work);
 }
 
 // Min-sum by the engine that the constant selects. The second takes checks of up to 16 entries, and the codes have none above 11.
 fn min_sum_step(rule: DecodeRule, m: usize, d: usize, work: &mut [f32])
     requires { ⌜ length (now work) ≡ d * m ⌝ }
-    requires { ⌜ m ≤ 256 ⌝ }
     ensures { λ _. ⌜ AtColumns (minSum (factorOf rule)) m d (now (work .entry)) (now (work .exit)) ⌝ }
 {
     if BY_OTHERS {
@@ -72,7 +69,6 @@ fn min_sum_step(rule: DecodeRule, m: usize, d: usize, work: &mut [f32])
 // is, is matched at each check.
 pub fn check_step(rule: DecodeRule, m: usize, d: usize, pads: &[u16], work: &mut [f32])
     requires { ⌜ length (now work) ≡ d * m ⌝ }
-    requires { ⌜ m ≤ 256 ⌝ }
     requires { ⌜ Below (length (now work)) (now pads) ⌝ }
     ensures { λ _. ⌜ AtColumns (checkStep rule) m d (scattered (padOf rule) (now (pads .entry)) (now (work .entry))) (now (work .exit)) ⌝ }
 {

@@ -1,4 +1,3 @@
 pub mod Magnitudes
-pub mod Cells
-pub mod CellSlots
-pub mod CellColumns
+pub mod Minima
+pub mod Seeing

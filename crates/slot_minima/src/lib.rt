@@ -1,15 +1,23 @@
-// Min-sum at every check of a code at once, over messages that lie by slots: with m checks of d entries each, entry j of check c lies at place j * m + c,
-// and slot j is the part from j * m to (j + 1) * m. Of each check the least magnitude, the second and the sign are kept, without a place; a slot at a time
-// is gone over, so that the compiler works on several floats at a time.
+// Min-sum at every check of a code, over messages that lie by slots: with m checks of d entries each, entry j of check c lies at place j * m + c. Check by
+// check the entries are seen, and then answered in place; of a check the least magnitude, the second and the sign are kept, without a place. Where m and d
+// are numbers that the compiler sees it takes a check's loops apart, and works on several checks at a time.
 ghost use mathlib.Core.Path.{_≡_};
 ghost use mathlib.Core.Bool.{cond};
-ghost use Prim.Native.Nat.{ℕ, _*_, _<_, _≤_};
+ghost use mathlib.Core.List.{map};
+ghost use Prim.Native.Nat.{_*_, _<_};
 ghost use lib.Ieee.{lt, eq};
 ghost use lib.ListN.{length};
 ghost use Rattle.softmath.specs.CheckNode.{minSum, factorOf};
-ghost use Rattle.slots.specs.Columns.{columnFrom, AtColumns};
-ghost use Rattle.slot_minima.specs.Cells.{cellIn, fresh, Noted, Answered, NotedColumns, AnsweredColumns};
+ghost use Rattle.slots.specs.Columns.{column, AtColumns, ColumnIs};
+ghost use Rattle.slot_minima.specs.Minima.{fresh, noted, notedAll, answerTo, Fit};
 use softmath::DecodeRule;
+
+// What is kept of the messages seen: their two least magnitudes, and the sign of their product.
+pub struct Seen {
+    pub least: f32,
+    pub second: f32,
+    pub sign: f32,
+}
 
 // The greater of two: b where neither is.
 fn greater(a: f32, b: f32) -> f32
@@ -32,116 +40,97 @@ fn where_equal(a: f32, b: f32, x: f32, y: f32) -> f32
     if a == b { x } else { y }
 }
 
-// Nothing seen.
-fn clear_in(m: usize, scratch: &mut [f32])
-    requires { ⌜ 3 * m ≤ length (now scratch) ⌝ }
-    ensures { λ _. ⌜ ((c : ℕ) → c < m → cellIn m (now (scratch .exit)) c ≡ fresh) ⌝ }
+// One message more.
+fn note(kept: Seen, v: f32) -> Seen
+    ensures { λ r. ⌜ r ≡ noted kept v ⌝ }
 {
-    let infinity = 1.0 / 0.0;
-    let q = m + m;
-    let mut c = 0;
-    while c < m {
-        scratch[m + c] = infinity;
-        scratch[c] = infinity;
-        scratch[q + c] = 1.0;
-        c += 1;
+    let a = softmath::magnitude(v);
+    let x = softmath::lesser(a, kept.second);
+    Seen {
+        least: softmath::lesser(a, kept.least),
+        second: pushed(a, kept.least, x),
+        sign: softmath::turn_sign(v, kept.sign),
     }
 }
 
-// One slot of m seen.
-fn note_in(m: usize, slot: &[f32], scratch: &mut [f32])
-    requires { ⌜ (length (now slot) ≡ m) × (3 * m ≤ length (now scratch)) ⌝ }
-    ensures { λ _. ⌜ Noted (now (slot .entry)) (cellIn m (now (scratch .entry))) (cellIn m (now (scratch .exit))) ⌝ }
+// The answer to a message of which all are seen: by the second magnitude where its own is the least.
+fn answer(scale: f32, kept: Seen, v: f32) -> f32
+    ensures { λ r. ⌜ r ≡ answerTo scale kept v ⌝ }
 {
-    let q = m + m;
-    let mut c = 0;
-    while c < m {
-        let v = slot[c];
-        let l = scratch[c];
-        let s = scratch[m + c];
-        let g = scratch[q + c];
-        let a = softmath::magnitude(v);
-        let x = softmath::lesser(a, s);
-        let y = pushed(a, l, x);
-        let z = softmath::lesser(a, l);
-        let h = softmath::turn_sign(v, g);
-        scratch[m + c] = y;
-        scratch[c] = z;
-        scratch[q + c] = h;
-        c += 1;
+    let a = softmath::magnitude(v);
+    let t = softmath::turn_sign(v, kept.sign);
+    let k = where_equal(a, kept.least, 1.0 / 0.0, 0.0);
+    let x = softmath::lesser(kept.second, k);
+    scale * t * greater(x, kept.least)
+}
+
+// The messages of check c seen.
+fn see_column(m: usize, d: usize, c: usize, work: &[f32]) -> Seen
+    requires { ⌜ (length (now work) ≡ d * m) × (c < m) ⌝ }
+    ensures { λ r. ⌜ r ≡ notedAll fresh (column m d c (now (work .entry))) ⌝ }
+    ensures { λ _. ⌜ Fit (column m d c (now (work .entry))) ⌝ }
+{
+    let mut kept = Seen {
+        least: 1.0 / 0.0,
+        second: 1.0 / 0.0,
+        sign: 1.0,
+    };
+    let mut j = 0;
+    while j < d {
+        kept = note(kept, work[j * m + c]);
+        j += 1;
+    }
+    kept
+}
+
+// The messages of check c answered, in place.
+fn answer_column(scale: f32, kept: Seen, m: usize, d: usize, c: usize, work: &mut [f32])
+    requires { ⌜ (length (now work) ≡ d * m) × (c < m) ⌝ }
+    ensures { λ _. ⌜ ColumnIs m d c (map (answerTo scale kept) (column m d c (now (work .entry)))) (now (work .entry)) (now (work .exit)) ⌝ }
+{
+    let mut j = 0;
+    while j < d {
+        let at = j * m + c;
+        work[at] = answer(scale, kept, work[at]);
+        j += 1;
     }
 }
 
-// One slot of m answered, in place.
-fn answer_in(rule: DecodeRule, m: usize, slot: &mut [f32], scratch: &[f32])
-    requires { ⌜ (length (now slot) ≡ m) × (3 * m ≤ length (now scratch)) ⌝ }
-    ensures { λ _. ⌜ Answered (factorOf rule) (cellIn m (now (scratch .entry))) (now (slot .entry)) (now (slot .exit)) ⌝ }
+// Check c. The rule is matched at each check.
+fn min_sum_column(rule: DecodeRule, m: usize, d: usize, c: usize, work: &mut [f32])
+    requires { ⌜ (length (now work) ≡ d * m) × (c < m) ⌝ }
+    ensures { λ _. ⌜ ColumnIs m d c (minSum (factorOf rule) (column m d c (now (work .entry)))) (now (work .entry)) (now (work .exit)) ⌝ }
 {
-    let infinity = 1.0 / 0.0;
-    let q = m + m;
-    let mut c = 0;
-    while c < m {
-        let scale = softmath::factor_of(rule);
-        let v = slot[c];
-        let l = scratch[c];
-        let s = scratch[m + c];
-        let g = scratch[q + c];
-        let a = softmath::magnitude(v);
-        let t = softmath::turn_sign(v, g);
-        let k = where_equal(a, l, infinity, 0.0);
-        let x = softmath::lesser(s, k);
-        let o = greater(x, l);
-        slot[c] = scale * t * o;
-        c += 1;
-    }
+    let scale = softmath::factor_of(rule);
+    let kept = see_column(m, d, c, work);
+    answer_column(scale, kept, m, d, c, work);
 }
 
-// Every slot seen.
-fn note_each(m: usize, d: usize, work: &[f32], scratch: &mut [f32])
-    requires { ⌜ (length (now work) ≡ d * m) × (3 * m ≤ length (now scratch)) ⌝ }
-    ensures { λ _. ⌜ NotedColumns m d (now (work .entry)) (cellIn m (now (scratch .entry))) (cellIn m (now (scratch .exit))) ⌝ }
-{
-    let mut a = 0;
-    let mut left = d;
-    while 0 < left {
-        let e = a + m;
-        note_in(m, &work[a..e], scratch);
-        a = e;
-        left -= 1;
-    }
-}
-
-// Every slot answered, in place.
-fn answer_each(rule: DecodeRule, m: usize, d: usize, work: &mut [f32], scratch: &[f32])
-    requires { ⌜ (length (now work) ≡ d * m) × (3 * m ≤ length (now scratch)) ⌝ }
-    ensures { λ _. ⌜ AnsweredColumns (factorOf rule) m d (cellIn m (now (scratch .entry))) (now (work .entry)) (now (work .exit)) ⌝ }
-{
-    let mut a = 0;
-    let mut left = d;
-    while 0 < left {
-        let e = a + m;
-        answer_in(rule, m, &mut work[a..e], scratch);
-        a = e;
-        left -= 1;
-    }
-}
-
-// Min-sum of m checks of d messages each, laid by slots, in place: each column becomes the answers to its check's messages.
-fn min_sum_slots(rule: DecodeRule, m: usize, d: usize, work: &mut [f32], scratch: &mut [f32])
-    requires { ⌜ (length (now work) ≡ d * m) × (3 * m ≤ length (now scratch)) ⌝ }
-    ensures { λ _. ⌜ ((c : ℕ) → c < m → columnFrom m d c (now (work .exit)) ≡ minSum (factorOf rule) (columnFrom m d c (now (work .entry)))) ⌝ }
-{
-    clear_in(m, scratch);
-    note_each(m, d, work, scratch);
-    answer_each(rule, m, d, work, scratch);
-}
-
-// Min-sum at every check, with what is seen of each in a local array.
-pub fn min_sum_minima(rule: DecodeRule, m: usize, d: usize, work: &mut [f32])
+// Every check.
+fn min_sum_columns(rule: DecodeRule, m: usize, d: usize, work: &mut [f32])
     requires { ⌜ length (now work) ≡ d * m ⌝ }
-    requires { ⌜ m ≤ 256 ⌝ }
     ensures { λ _. ⌜ AtColumns (minSum (factorOf rule)) m d (now (work .entry)) (now (work .exit)) ⌝ }
 {
-    let mut scratch = [0.0f32; 768];
-    min_sum_slots(rule, m, d, work, &mut scratch);
+    let mut c = 0;
+    while c < m {
+        min_sum_column(rule, m, d, c, work);
+        c += 1;
+    }
+}
+
+// The same with the sizes of the staircase codes as numbers that the compiler sees.
+pub fn min_sum_minima(rule: DecodeRule, m: usize, d: usize, work: &mut [f32])
+    requires { ⌜ length (now work) ≡ d * m ⌝ }
+    ensures { λ _. ⌜ AtColumns (minSum (factorOf rule)) m d (now (work .entry)) (now (work .exit)) ⌝ }
+{
+    if m == 256 && d == 5 {
+        return min_sum_columns(rule, 256, 5, work);
+    }
+    if m == 192 && d == 8 {
+        return min_sum_columns(rule, 192, 8, work);
+    }
+    if m == 128 && d == 11 {
+        return min_sum_columns(rule, 128, 11, work);
+    }
+    min_sum_columns(rule, m, d, work)
 }

@@ -11,15 +11,13 @@ use softmath::DecodeRule;
 // The messages of check c, at the front of an array.
 fn column_of(m: usize, d: usize, c: usize, work: &[f32]) -> [f32; 16]
     requires { ⌜ (length (now work) ≡ d * m) × (c < m) ⌝ }
-    requires { ⌜ (m ≤ 256) × (d ≤ 16) ⌝ }
+    requires { ⌜ d ≤ 16 ⌝ }
     ensures { λ r. ⌜ (length r ≡ 16) × (take d r ≡ column m d c (now (work .entry))) ⌝ }
 {
     let mut messages = [0.0f32; 16];
-    let mut p = c;
     let mut j = 0;
     while j < d {
-        messages[j] = work[p];
-        p += m;
+        messages[j] = work[j * m + c];
         j += 1;
     }
     messages
@@ -28,14 +26,11 @@ fn column_of(m: usize, d: usize, c: usize, work: &[f32]) -> [f32; 16]
 // The answers to check c, in the place of its messages.
 fn put_column(m: usize, c: usize, answers: &[f32], work: &mut [f32])
     requires { ⌜ (length (now work) ≡ length (now answers) * m) × (c < m) ⌝ }
-    requires { ⌜ (m ≤ 256) × (length (now answers) ≤ 16) ⌝ }
     ensures { λ _. ⌜ ColumnIs m (length (now (answers .entry))) c (now (answers .entry)) (now (work .entry)) (now (work .exit)) ⌝ }
 {
-    let mut p = c;
     let mut j = 0;
     while j < answers.len() {
-        work[p] = answers[j];
-        p += m;
+        work[j * m + c] = answers[j];
         j += 1;
     }
 }
@@ -50,7 +45,7 @@ fn replace_column(
     work: &mut [f32],
 )
     requires { ⌜ (length (now work) ≡ length (now messages) * m) × (c < m) ⌝ }
-    requires { ⌜ (m ≤ 256) × (length (now messages) ≤ 16) × (length (now answers) ≡ length (now messages)) ⌝ }
+    requires { ⌜ length (now answers) ≡ length (now messages) ⌝ }
     ensures { λ _. ⌜ ColumnIs m (length (now (messages .entry))) c
         (othersSum (factorOf rule) (now (messages .entry))) (now (work .entry)) (now (work .exit)) ⌝ }
 {
@@ -61,7 +56,7 @@ fn replace_column(
 // Check c.
 fn answer_check(rule: DecodeRule, m: usize, d: usize, c: usize, work: &mut [f32])
     requires { ⌜ (length (now work) ≡ d * m) × (c < m) ⌝ }
-    requires { ⌜ (m ≤ 256) × (d ≤ 16) ⌝ }
+    requires { ⌜ d ≤ 16 ⌝ }
     ensures { λ _. ⌜ ColumnIs m d c (othersSum (factorOf rule) (column m d c (now (work .entry)))) (now (work .entry)) (now (work .exit)) ⌝ }
 {
     let messages = column_of(m, d, c, work);
@@ -72,7 +67,7 @@ fn answer_check(rule: DecodeRule, m: usize, d: usize, c: usize, work: &mut [f32]
 // Min-sum at every check.
 fn min_sum_others(rule: DecodeRule, m: usize, d: usize, work: &mut [f32])
     requires { ⌜ length (now work) ≡ d * m ⌝ }
-    requires { ⌜ (m ≤ 256) × (d ≤ 16) ⌝ }
+    requires { ⌜ d ≤ 16 ⌝ }
     ensures { λ _. ⌜ AtColumns (othersSum (factorOf rule)) m d (now (work .entry)) (now (work .exit)) ⌝ }
 {
     let mut c = 0;
@@ -85,7 +80,7 @@ fn min_sum_others(rule: DecodeRule, m: usize, d: usize, work: &mut [f32])
 // The same, as the check step asks for it: what equates the two engines is the theorem of `by_others`.
 pub fn min_sum_second(rule: DecodeRule, m: usize, d: usize, work: &mut [f32])
     requires { ⌜ length (now work) ≡ d * m ⌝ }
-    requires { ⌜ (m ≤ 256) × (d ≤ 16) ⌝ }
+    requires { ⌜ d ≤ 16 ⌝ }
     ensures { λ _. ⌜ AtColumns (minSum (factorOf rule)) m d (now (work .entry)) (now (work .exit)) ⌝ }
 {
     min_sum_others(rule, m, d, work);

@@ -1,3 +1,1 @@
-pub mod ProductLoops
-pub mod ProductColumns
-pub mod ProductTurn
+pub mod Products

@@ -95,11 +95,11 @@ entry-inside (r ∷ rs) (suc c) h = simp length-append (omega (arith, entry-insi
 -- ---- no two edges have the same place
 
 -- an entry and a check below m, from the place
-same-check : (m i j c k : ℕ) → c < m → k < m → i * m + c ≡ j * m + k → c ≡ k
+pub same-check : (m i j c k : ℕ) → c < m → k < m → i * m + c ≡ j * m + k → c ≡ k
 same-check m i j c k h l e =
     sym (mod-eq-of-lt h) ∙ sym (mul-add-mod-self-right i m c) ∙ ap (λ (x : ℕ). x % m) e ∙ mul-add-mod-self-right j m k ∙ mod-eq-of-lt l
 
-same-entry : (m i j c k : ℕ) → c < m → k < m → i * m + c ≡ j * m + k → i ≡ j
+pub same-entry : (m i j c k : ℕ) → c < m → k < m → i * m + c ≡ j * m + k → i ≡ j
 same-entry m i j c k h l e =
     let p : 0 < m = omega arith in
     let a : (i * m + c) / m ≡ i + c / m = mul-add-div-right p i c in

@@ -1,8 +1,8 @@
--- Laws of floats that several crates need: a sign beside a positive one, a zero that fits, and that f32 holds a product. Assumes nothing.
+-- Laws of floats that several crates need: a sign beside a positive one, what fits, and that f32 holds a product. Assumes nothing.
 use mathlib.Core.Path.{_≡_, refl}
 use mathlib.Core.Bool.{Bool, true, false}
 use mathlib.Core.List.{List, [], _∷_}
-use Prim.Native.Nat.{zero, suc, _*_, _^_}
+use Prim.Native.Nat.{ℕ, zero, suc, _*_, _^_}
 use native.Mathlib.Nat.{pow-suc}
 use native.Mathlib.Omega.{arith}
 use lib.Dec.{T}
@@ -23,6 +23,12 @@ unfolding fits
 zero-exponent s (pos zero) h = refl
 zero-exponent s (pos (suc k)) h = absurd (omega (arith, eqb-true (2 ^ suc k * 1) 1 h, pow-suc 2 k, pow-pos k))
 zero-exponent s (negsuc k) h = absurd (omega (arith, eqb-true (1 * 2 ^ suc k) 1 h, pow-suc 2 k, pow-pos k))
+
+-- what fits does so without its sign
+pub fits-unsigned : (s : Bool) (m : ℕ) (e : ℤ) → T (fits binary32 (fin s m e)) → T (fits binary32 (fin false m e))
+unfolding fits
+fits-unsigned s zero e h = h
+fits-unsigned s (suc m) e h = h
 
 -- f32 holds a product that is started from what it holds
 pub fold-fits : (s : Float) (xs : List Float) → T (fits binary32 s) → T (fits binary32 (foldFrom _⊗_ s xs))

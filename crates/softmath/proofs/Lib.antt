@@ -1,4 +1,5 @@
 pub mod Floats
+pub mod Unrounded
 pub mod LeaveOneOut
 pub mod Signless
 pub mod Steps

@@ -60,11 +60,12 @@ sum-zeros true false c = round-zero false c
 sum-zeros false true c = round-zero false c
 sum-zeros false false c = round-zero false c
 
-zeros-add : (s t : Bool) (e d : ℤ) → fin s 0 e ⊕ fin t 0 d ≡ fin (s && t) 0 (pos 0)
+pub zeros-add : (s t : Bool) (e d : ℤ) → fin s 0 e ⊕ fin t 0 d ≡ fin (s && t) 0 (pos 0)
 unfolding add
 zeros-add s t e d = simp zero-mul (sum-zeros s t (down e * down d))
 
-some : (m : ℕ) (e : ℤ) → 0 < suc m * up e
+-- some digits are some units
+pub some : (m : ℕ) (e : ℤ) → 0 < suc m * up e
 some m e = let p : 0 < suc m = omega arith in mul-pos p (up-pos e)
 
 -- the two sums are one, or x is -0.0 and each sum is the zero it was started from

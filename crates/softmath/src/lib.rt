@@ -1,7 +1,7 @@
 // The f32 arithmetic of a decoding round: the functions of one or two values. Each operation is rounded once, in a fixed order.
 ghost use mathlib.Core.Path.{_≡_};
 ghost use mathlib.Core.Bool.{cond};
-ghost use lib.Ieee.{neg, lt};
+ghost use lib.Ieee.{lt};
 ghost use Rattle.softmath.specs.Functions.{tanh, atanh, clampUnit, magnitudeOf, decide};
 ghost use Rattle.softmath.specs.CheckNode.{turned, factorOf};
 
@@ -55,21 +55,12 @@ pub fn clamp_unit(x: f32) -> f32
     }
 }
 
-// The greater of a value and its negative: the negative where neither is, as at a zero.
-fn greater_sign(x: f32) -> f32
-    ensures { λ r. ⌜ r ≡ cond (lt (neg x) x) x (neg x) ⌝ }
-{
-    let n = -x;
-    if n < x { x } else { n }
-}
-
 // The value without its sign: 0.0 for both zeros, a NaN for a NaN. It does not ask whether x is below zero, as the sign's
 // test does: a test of floats that chooses twice would become a jump.
 pub fn magnitude(x: f32) -> f32
     ensures { λ r. ⌜ r ≡ magnitudeOf x ⌝ }
 {
-    let w = greater_sign(x);
-    if w == 0.0 { 0.0 } else { w }
+    if x > 0.0 { x } else { 0.0 - x }
 }
 
 // The bit that a sum decides: 1 at or below zero, 0 for a NaN.

@@ -19,7 +19,7 @@ product-step-requires c κs =
     let told = c .before in
     let set = told .before .before .before .before in
     let start = set .before .before .before .before .before in
-    (sum-product-multiplies _ (told .enum-told .given .1), (padded-long _ _ _ _ (set .scatter .ensures) ∙ start .pre .0, start .pre .1 .0))
+    (sum-product-multiplies _ (told .enum-told .given .1), padded-long _ _ _ _ (set .scatter .ensures) ∙ start .pre .0)
 
 enum-told-2 : tie.Need-enum-told-2
 enum-told-2 c = search needs
@@ -41,7 +41,7 @@ product-step-requires-2 c κs =
     let told = c .before in
     let set = told .before .before .before .before in
     let start = set .before .before .before .before .before in
-    (ft8-multiplies _ (told .enum-told4 .given .1), (padded-long _ _ _ _ (set .scatter .ensures) ∙ start .pre .0, start .pre .1 .0))
+    (ft8-multiplies _ (told .enum-told4 .given .1), padded-long _ _ _ _ (set .scatter .ensures) ∙ start .pre .0)
 
 same-length : tie.Need-same-length
 same-length c = search needs

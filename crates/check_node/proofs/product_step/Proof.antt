@@ -7,9 +7,6 @@ use Rattle.check_node.proofs.product_step.Tie as tie
 before-checks-requires : tie.Need-before-checks-requires
 before-checks-requires c κs = search needs
 
-slice-aggregate-products-slots : tie.Need-slice-aggregate-products-slots
-slice-aggregate-products-slots c = search needs
-
 products-slots-requires : tie.Need-products-slots-requires
 products-slots-requires c κs = search needs
 
@@ -22,10 +19,10 @@ same-length c = search needs
 returns : tie.Need-returns
 returns c =
     let last = c .before .before in
-    let second = last .before .before .before .before .before in
-    let first = second .before .before .before .before .before in
+    let second = last .before .before .before .before in
+    let first = second .before .before .before .before in
     let start = first .before .before .before in
-    three-passes (start .args .rule) (start .args .m) (start .args .d) _ _ _ _ (start .pre .0) (start .pre .1 .0)
+    three-passes (start .args .rule) (start .args .m) (start .args .d) _ _ _ _ (start .pre .0) (start .pre .1)
     (first .before-checks .ensures) (second .products-slots .ensures) (last .after-checks .ensures)
 
 pub product-step-spec : {M : Type 1} → statement M
@@ -33,7 +30,6 @@ product-step-spec =
     tie.close
     (tie.spec
     before-checks-requires
-    slice-aggregate-products-slots
     products-slots-requires
     after-checks-requires
     same-length

@@ -18,7 +18,7 @@ check-step-requires c κs =
     let t = c .before .before in
     let s = t .before .before in
     let e = room-at _ 0 _ (t .if1 .taken) (s .pre .1) in
-    (e, (omega arith, one-below _ _ (omega (arith, e))))
+    (e, one-below _ _ (omega (arith, e)))
 
 same-length : tie.Need-same-length
 same-length c = search needs
@@ -38,7 +38,7 @@ check-step-requires-2 c κs =
     let t = c .before .before in
     let s = t .before .before .before in
     let e = room-at _ 1 _ (t .if2 .taken) (s .pre .1) in
-    (e, (omega arith, one-below _ _ (omega (arith, e))))
+    (e, one-below _ _ (omega (arith, e)))
 
 same-length-2 : tie.Need-same-length-2
 same-length-2 c = search needs
@@ -58,7 +58,7 @@ check-step-requires-3 c κs =
     let t = c .before .before in
     let s = t .before .before .before .before in
     let e = room-at _ 2 _ (t .if3 .taken) (s .pre .1) in
-    (e, (omega arith, one-below _ _ (omega (arith, e))))
+    (e, one-below _ _ (omega (arith, e)))
 
 same-length-3 : tie.Need-same-length-3
 same-length-3 c = search needs
@@ -79,7 +79,7 @@ check-step-requires-4 c κs =
     let t = c .before .before in
     let s = t .before .before .before .before in
     let e = room-at _ 3 _ (last-code _ (s .pre .0) (t .before .before .if1 .left) (t .before .if2 .left) (t .if3 .left)) (s .pre .1) in
-    (e, (omega arith, pads-below _ e))
+    (e, pads-below _ e)
 
 same-length-4 : tie.Need-same-length-4
 same-length-4 c = search needs

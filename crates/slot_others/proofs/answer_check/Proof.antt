@@ -1,7 +1,6 @@
 -- `slot_others::answer_check` meets its contract: the check's messages are taken out, answered and put back. Assumes nothing.
 use mathlib.Core.Path.{sym, ap, _∙_}
 use Prim.Native.Nat.{ℕ, _*_}
-use native.Mathlib.Omega.{arith}
 use lib.Seq.{length-take-le}
 use Rattle.slot_others.proofs.OneColumn.{taken-size, column-put}
 use borrow.Author.Needs.{needs}
@@ -21,16 +20,14 @@ array-borrow-prefix-answers : tie.Need-array-borrow-prefix-answers
 array-borrow-prefix-answers c = search needs
 
 slice-aggregate-replace-column-2 : tie.Need-slice-aggregate-replace-column-2
-slice-aggregate-replace-column-2 c = sym (length-take-le _ _ (c .before .before .before .before .before .pre .1 .1))
+slice-aggregate-replace-column-2 c = sym (length-take-le _ _ (c .before .before .before .before .before .pre .1))
 
 replace-column-requires : tie.Need-replace-column-requires
 replace-column-requires c κs =
     let taken = c .before .before .before in
     let start = taken .before .before .before in
-    let size = taken-size _ _ _ _ _ (taken .column-of .ensures .1) in (
-      (start .pre .0 .0 ∙ ap (λ (x : ℕ). x * start .args .m) size, start .pre .0 .1),
-      (start .pre .1 .0, omega (arith, size, start .pre .1 .1), length-take-le _ _ (start .pre .1 .1) ∙ size),
-    )
+    let size = taken-size _ _ _ _ _ (taken .column-of .ensures .1) in
+    ((start .pre .0 .0 ∙ ap (λ (x : ℕ). x * start .args .m) size, start .pre .0 .1), length-take-le _ _ (start .pre .1) ∙ size)
 
 same-length : tie.Need-same-length
 same-length c = search needs

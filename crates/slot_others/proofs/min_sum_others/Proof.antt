@@ -4,7 +4,7 @@ use Prim.Native.Nat.{_-_, _≤_}
 use native.Mathlib.Omega.{arith}
 use Rattle.by_others.specs.Others.{othersSum}
 use Rattle.softmath.specs.CheckNode.{factorOf}
-use Rattle.slot_others.proofs.OneColumn.{DoneTo, done-none, done-more, done-all}
+use Rattle.slots.proofs.EachColumn.{DoneTo, done-none, done-more, done-all}
 use borrow.Author.Needs.{needs}
 use Rattle.slot_others.proofs.min_sum_others.Statement.{statement}
 use Rattle.slot_others.proofs.min_sum_others.Tie as tie

@@ -1,7 +1,6 @@
 -- `slot_others::replace_column` meets its contract: the answers are the second engine's, and they are put where the messages were. Assumes nothing.
 use mathlib.Core.Path.{sym, ap, _∙_}
 use Prim.Native.Nat.{ℕ, _*_}
-use native.Mathlib.Omega.{arith}
 use Rattle.slot_others.proofs.OneColumn.{answers-size, answers-put}
 use borrow.Author.Needs.{needs}
 use Rattle.slot_others.proofs.replace_column.Statement.{statement}
@@ -18,7 +17,7 @@ put-column-requires c κs =
     let call = c .before .before .before .before in
     let start = call .before .before .before .before .before .before in
     let size = answers-size _ _ _ (call .min-sum-by-others .ensures) in
-    ((start .pre .0 .0 ∙ ap (λ (x : ℕ). x * start .args .m) (sym size), start .pre .0 .1), (start .pre .1 .0, omega (arith, size, start .pre .1 .1)))
+    (start .pre .0 .0 ∙ ap (λ (x : ℕ). x * start .args .m) (sym size), start .pre .0 .1)
 
 same-length : tie.Need-same-length
 same-length c = search needs

@@ -12,7 +12,7 @@ slice-aggregate-check-step : tie.Need-slice-aggregate-check-step
 slice-aggregate-check-step c = search needs
 
 check-step-requires : tie.Need-check-step-requires
-check-step-requires c κs = (omega arith, (omega arith, no-pads _))
+check-step-requires c κs = (omega arith, no-pads _)
 
 print-floats-requires : tie.Need-print-floats-requires
 print-floats-requires c κs = search needs
