@@ -19,7 +19,7 @@ use Rattle.construction.specs.Codes.{Code, blockLength}
 use Rattle.staircase.specs.Codes.{codeOf, columns, checks}
 use Rattle.staircase.specs.Staircase.{encoded}
 use Rattle.staircase.proofs.EdgeCount.{columns-length}
-use Rattle.ldpc_codes.proofs.Codewords.{count-encoded, zero-count-encoded}
+use Rattle.parities.proofs.Codewords.{count-encoded, zero-count-encoded}
 use Rattle.codewords.proofs.PackedWords.{codewords}
 use Rattle.refusal.specs.Outcome.{Outcome}
 use Rattle.refusal.proofs.Judged.{verdict, nothing}

@@ -14,7 +14,7 @@ use Rattle.construction.specs.Codes.{Code}
 use Rattle.staircase.specs.Codes.{codeOf, columns, checks}
 use Rattle.staircase.specs.Staircase.{encoded, parityBits}
 use Rattle.staircase.proofs.EdgeCount.{columns-length}
-use Rattle.ldpc_codes.proofs.Codewords.{count-encoded}
+use Rattle.parities.proofs.Codewords.{count-encoded}
 use Rattle.code174.specs.Code174 as ft8
 use Rattle.ldpc_encoding.specs.Encoding.{encodeBits}
 use Rattle.codewords.proofs.PackedWords.{codewords, encoding-length, encoding-front}

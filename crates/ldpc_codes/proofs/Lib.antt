@@ -1,2 +1,1 @@
-pub mod Codewords
 pub mod Laid

@@ -29,11 +29,8 @@ abbrev pub encodedBy : ℕ → List ℕ → List ℕ
 encodedBy code message = codewordOf (codeOf code) message
 
 -- "5: staircase word to be counted shorter than N"
-abbrev pub shortRefusals : ℕ → List ℕ → List Condition
-shortRefusals n hard = (5 when ltb (length hard) n) ∷ []
-
 abbrev pub shortWord : Code → List ℕ → List Condition
-shortWord c hard = shortRefusals (blockLength c) hard
+shortWord c hard = (5 when ltb (length hard) (blockLength c)) ∷ []
 
 abbrev pub weightRefusals : ℕ → List ℕ → List Condition
 weightRefusals code hard = (1 when not (ltb code 3)) ∷ shortWord (codeOf code) hard

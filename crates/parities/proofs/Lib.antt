@@ -1,1 +1,2 @@
+pub mod Codewords
 pub mod Filled

@@ -1,6 +1,6 @@
 -- The laws of counting, for any check list: what each mask counts, and which part of a word matters. By induction over the checks. Assumes nothing.
-use mathlib.Core.Path.{_≡_, refl, _∙_}
-use mathlib.Core.List.{List, [], _∷_}
+use mathlib.Core.Path.{_≡_, refl, ap, _∙_}
+use mathlib.Core.List.{List, [], _∷_, _++_}
 use Prim.Native.Nat.{ℕ, zero, suc, _+_, _%_, _^_, _<_}
 use native.Mathlib.Omega.{arith}
 use lib.Bits.{bitAnd, bitXor, and-mask, xor-add-and, xor-lt}
@@ -28,7 +28,18 @@ pub low-length : (bytes : List ℕ) → length (lowBits bytes) ≡ length bytes
 unfolding lowBits
 low-length bytes = length-map bytes (λ (b : ℕ). b % 2)
 
-xor-low : (a b : ℕ) → bitXor a b % 2 ≡ (a + b) % 2
+pub low-append : (xs ys : List ℕ) → lowBits (xs ++ ys) ≡ lowBits xs ++ lowBits ys
+unfolding lowBits
+low-append [] ys = refl
+low-append (x ∷ xs) ys = ap (λ (l : List ℕ). (x % 2) ∷ l) (low-append xs ys)
+
+pub low-take : (n : ℕ) (bytes : List ℕ) → lowBits (take n bytes) ≡ take n (lowBits bytes)
+unfolding lowBits
+low-take zero bytes = refl
+low-take (suc n) [] = refl
+low-take (suc n) (b ∷ bytes) = ap (λ (l : List ℕ). (b % 2) ∷ l) (low-take n bytes)
+
+pub xor-low : (a b : ℕ) → bitXor a b % 2 ≡ (a + b) % 2
 xor-low a b = omega (arith, xor-add-and a b)
 
 odd-outside : (x b q : ℕ) → (x + (b % 2 + q) % 2) % 2 ≡ (x + b + q) % 2

@@ -1,13 +1,11 @@
 -- `ldpc_codes::encode` meets its contract: each way out by the tests that led there. Assumes nothing.
-use mathlib.Core.Path.{_≡_, sym, ap, _∙_}
+use mathlib.Core.Path.{_≡_, sym, _∙_}
 use Prim.Native.Nat.{_≤_, _<_}
 use native.Mathlib.Omega.{arith}
 use borrow.Author.Tests.{lt-ltb, le-ltb, eq-eqb, ne-eqb}
 use lib.ListN.{length}
 use Rattle.construction.specs.Codes.{blockLength}
-use Rattle.staircase.specs.Codes.{codeOf, checks}
-use Rattle.stair_parity.specs.Filling.{filled}
-use Rattle.ldpc_codes.proofs.Laid.{laid-encoded}
+use Rattle.staircase.specs.Codes.{codeOf}
 use borrow.Author.Needs.{needs}
 use Rattle.ldpc_codes.proofs.encode.Statement.{statement}
 use Rattle.ldpc_codes.proofs.encode.Tie as tie
@@ -53,15 +51,10 @@ returns-3 c =
     let t = ne-eqb _ _ (λ e. c .if3 .taken (e ∙ sym (c .before .values-of .ensures))) in
     (simp (k, s, t), simp (k, s, t))
 
-copy-message-requires : tie.Need-copy-message-requires
-copy-message-requires c κs =
+encode-requires : tie.Need-encode-requires
+encode-requires c κs =
     let tested = c .before in
-    omega (arith, bits-right (tested .before .before), values-right tested)
-
-fill-requires : tie.Need-fill-requires
-fill-requires c κs =
-    let copied = c .before .before .before in
-    copied .copy-message .kept .1 .0 ∙ values-right (copied .before .before)
+    (bits-right (tested .before .before), values-right tested)
 
 same-length : tie.Need-same-length
 same-length c = search needs
@@ -69,15 +62,11 @@ same-length c = search needs
 returns-4 : tie.Need-returns-4
 returns-4 c =
     let done = c .before .before in
-    let copied = done .before .before .before .before in
-    let tested = copied .before .before in
-    let a = at-bits (tested .before .before .before) .args in
+    let tested = done .before .before in
     let k = lt-ltb _ _ (known (tested .before .before .before)) in
     let s = eq-eqb _ _ (bits-right (tested .before .before)) in
     let t = eq-eqb _ _ (values-right tested) in
-    let same = done .fill .ensures ∙ ap (filled (checks (codeOf (a .code))) (codeOf (a .code) .k)) (copied .copy-message .ensures)
-    ∙ laid-encoded (codeOf (a .code)) (a .message .now) (a .codeword .now) (bits-right (tested .before .before)) (values-right tested) in
-    (simp (k, s, t), simp (k, s, t) same)
+    (simp (k, s, t), simp (k, s, t) (done .encode .ensures))
 
 pub encode-spec : {M : Type 1} → statement M
 encode-spec =
@@ -88,7 +77,6 @@ encode-spec =
     returns-2
     values-of-requires
     returns-3
-    copy-message-requires
-    fill-requires
+    encode-requires
     same-length
     returns-4)
