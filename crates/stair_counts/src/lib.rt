@@ -12,14 +12,14 @@ ghost use Rattle.tanner.specs.Masked.{countMasked, firstMasked, syndromeMasked}
 ghost use Rattle.tanner.specs.Found.{firstOf, syndromeOf};
 ghost use Rattle.construction.specs.Codes.{n512r12, n576r23, n512r34, blockLength};
 ghost use Rattle.staircase.specs.Codes.{codeOf, checks};
-ghost use Rattle.stair_counts.specs.Turns.{turns};
+ghost use Rattle.stair_counts.specs.Apart.{rowsApart};
 
 // In how many of m rows two words differ in one of the row's parity bits: in its own or in the one before, and not in both.
-fn count_turns(k: usize, m: usize, word: &[u8], hard: &[u8]) -> u16
+fn count_apart(k: usize, m: usize, word: &[u8], hard: &[u8]) -> u16
     requires { ⌜ k + m ≤ length (now word) ⌝ }
     requires { ⌜ k + m ≤ length (now hard) ⌝ }
     requires { ⌜ m < 65536 ⌝ }
-    ensures { λ r. ⌜ r ≡ turns k 0 m (now (word .entry)) (now (hard .entry)) ⌝ }
+    ensures { λ r. ⌜ r ≡ rowsApart k 0 m (now (word .entry)) (now (hard .entry)) ⌝ }
 {
     let mut found: u16 = 0;
     let mut before: u8 = 0;
@@ -41,7 +41,7 @@ fn count_in(code: u32, k: usize, word: &mut [u8], hard: &[u8]) -> u16
     ensures { λ r. ⌜ r ≡ countMasked 1 (checks (codeOf code)) (now (hard .entry)) ⌝ }
 {
     parities::encode(code, &hard[..k], word);
-    count_turns(k, word.len() - k, word, hard)
+    count_apart(k, word.len() - k, word, hard)
 }
 
 // How many checks the low bits of a word leave unsatisfied: any number above 1 is code 2.

@@ -1,4 +1,4 @@
--- `stair_counts::count_in` meets its contract: the turns between the word and the encoding of its message are its count (`recounted`). Assumes nothing.
+-- `stair_counts::count_in` meets its contract: the rows in which the word is apart from its message's encoding are its count (`recounted`). Assumes nothing.
 use mathlib.Core.Path.{_≡_, sym, _∙_}
 use native.Mathlib.Omega.{arith}
 use lib.ListN.{length, take}
@@ -21,11 +21,11 @@ encode-requires c κs =
     let s = c .before .before .before .before in
     (long s ∙ s .pre .0, s .pre .1 .0)
 
-sub-count-turns : tie.Need-sub-count-turns
-sub-count-turns c = search needs
+sub-count-apart : tie.Need-sub-count-apart
+sub-count-apart c = search needs
 
-count-turns-requires : tie.Need-count-turns-requires
-count-turns-requires c κs =
+count-apart-requires : tie.Need-count-apart-requires
+count-apart-requires c κs =
     let done = c .before .before .before in
     let s = done .before .before .before .before .before in
     let size = done .encode .kept .1 .1 .0 ∙ s .pre .1 .0 in
@@ -39,7 +39,7 @@ returns c =
     let done = c .before .before .before .before in
     let s = done .before .before .before .before .before in
     let size = done .encode .kept .1 .1 .0 ∙ s .pre .1 .0 in
-    recounted (codeOf (s .args .code)) _ _ _ _ _ (s .pre .0) (omega (arith, size, s .pre .0)) (done .encode .ensures) (s .pre .1 .1) (c .count-turns .ensures)
+    recounted (codeOf (s .args .code)) _ _ _ _ _ (s .pre .0) (omega (arith, size, s .pre .0)) (done .encode .ensures) (s .pre .1 .1) (c .count-apart .ensures)
 
 pub count-in-spec : {M : Type 1} → statement M
 count-in-spec =
@@ -47,7 +47,7 @@ count-in-spec =
     (tie.spec
     slice-aggregate-encode
     encode-requires
-    sub-count-turns
-    count-turns-requires
+    sub-count-apart
+    count-apart-requires
     same-length
     returns)

@@ -5,10 +5,10 @@ use Rattle.tanner.specs.Checks.{Word}
 use Rattle.stairs.specs.Stairs.{bitBefore}
 
 -- 1 where the low bits of two words differ in one of row i's parity bits, its own and the one before, and not in both
-unfoldable pub turn : ℕ → ℕ → Word → Word → ℕ
-turn k i u w = (getD u (k + i) 0 + getD w (k + i) 0 + (bitBefore k i u + bitBefore k i w)) % 2
+unfoldable pub apart : ℕ → ℕ → Word → Word → ℕ
+apart k i u w = (getD u (k + i) 0 + getD w (k + i) 0 + (bitBefore k i u + bitBefore k i w)) % 2
 
 -- how many of n rows from row i on are such
-unfoldable pub turns : ℕ → ℕ → ℕ → Word → Word → ℕ
-turns k i zero u w = 0
-turns k i (suc n) u w = turn k i u w + turns k (suc i) n u w
+unfoldable pub rowsApart : ℕ → ℕ → ℕ → Word → Word → ℕ
+rowsApart k i zero u w = 0
+rowsApart k i (suc n) u w = apart k i u w + rowsApart k (suc i) n u w
