@@ -1,2 +1,2 @@
 -- The sizes of the codes by number: proved in crate `batch_refusals` (proofs/Sizes.antt), and passed on.
-pub use Rattle.batch_refusals.proofs.Sizes.{values-ft8, bits-ft8, Small, size_small, product_small}
+pub use Rattle.batch_refusals.proofs.Sizes.{values_ft8, bits_ft8, Small, size_small, product_small}

@@ -1,18 +1,18 @@
 -- The batch (document 01, "The batch"): what is handed over, when it is refused, and what it writes otherwise.
 use Rattle.std.specs.Prelude.{◌≡◌, List, map, ℕ, Float, length}
 use Rattle.refusal.specs.Outcome.{Outcome, Condition, judged, kept}
-use Rattle.check_places.specs.Places.{placeOf}
+use Rattle.check_places.specs.Places.{place_of}
 use Rattle.tanner.specs.Flat.{joined}
 use Rattle.one_round.specs.Round.{Decode}
-use Rattle.rounds.specs.Rounds.{roundsRun, chosenCount, chosenFirst, chosenBits}
+use Rattle.rounds.specs.Rounds.{rounds_run, chosen_count, chosen_first, chosen_bits}
 use Rattle.work_area.specs.Area.{cleared}
-use Rattle.batch.specs.Codes.{sizeK, decodeOf}
-use Rattle.batch.specs.Pairs.{Pair, framesOf}
+use Rattle.batch.specs.Codes.{size_k, decode_of}
+use Rattle.batch.specs.Pairs.{Pair, frames_of}
 use Rattle.batch_refusals.specs.declared.Room.{Room}
--- Which refusals a batch has, and in what order, is defined in crate `batch_refusals` (specs/Refusals.antt): `refusalsOf` is first `headRefusals`, the
--- numbers and the lengths (1, 2, 3 by `ruleNotOfCode`, 7, 8, 9), and then `pairRefusals`, the pairs one after another, each by `pairTests` (10, 11, 12).
-pub use Rattle.batch_refusals.specs.Refusals.{pairTests, headRefusals}
-unfoldable pub use Rattle.batch_refusals.specs.Refusals.{pairRefusals, ruleNotOfCode, refusalsOf}
+-- Which refusals a batch has, and in what order, is defined in crate `batch_refusals` (specs/Refusals.antt): `refusals_of` is first `head_refusals`, the
+-- numbers and the lengths (1, 2, 3 by `rule_not_of_code`, 7, 8, 9), and then `pair_refusals`, the pairs one after another, each by `pair_tests` (10, 11, 12).
+pub use Rattle.batch_refusals.specs.Refusals.{pair_tests, head_refusals}
+unfoldable pub use Rattle.batch_refusals.specs.Refusals.{pair_refusals, rule_not_of_code, refusals_of}
 -- the memory lent to a call: defined in crate `one_frame` (specs/Place.antt), as `Lent`
 pub use Rattle.one_frame.specs.Place.{Lent, lent}
 
@@ -42,44 +42,44 @@ batch code rule limit scale values pairs memory = record {
 -- ---- refusals
 
 -- how many places are lent for each
-abbrev pub roomOf : Lent → Room
-roomOf l = record { bits = length l.bits; counts = length l.counts; rounds = length l.rounds; firsts = length l.firsts; work = length l.work }
+abbrev pub room_of : Lent → Room
+room_of l = record { bits = length l.bits; counts = length l.counts; rounds = length l.rounds; firsts = length l.firsts; work = length l.work }
 
--- those of a batch, in the order in which they are tested: "Lowest number first" (`refusalsOf` above)
+-- those of a batch, in the order in which they are tested: "Lowest number first" (`refusals_of` above)
 abbrev pub refusals : Batch → List Condition
-refusals b = refusalsOf b.code b.rule (length b.values) b.pairs (roomOf b.memory)
+refusals b = refusals_of b.code b.rule (length b.values) b.pairs (room_of b.memory)
 
 -- ---- what is written
 
 -- the values of the frames, in place order
 abbrev pub frames : Batch → List (List Float)
-frames b = framesOf b.values b.pairs
+frames b = frames_of b.values b.pairs
 
 -- what is decoded of a frame: of its values, the code, the rule and the scale alone
-abbrev pub frameDecode : Batch → List Float → Decode
-frameDecode b llr = decodeOf b.code b.rule b.scale llr
+abbrev pub frame_decode : Batch → List Float → Decode
+frame_decode b llr = decode_of b.code b.rule b.scale llr
 
 -- its message bits, its count, its rounds run and its first unsatisfied check under the batch's limit
-abbrev pub frameBits : Batch → List Float → List ℕ
-frameBits b llr = chosenBits (frameDecode b llr) b.limit (sizeK b.code)
+abbrev pub frame_bits : Batch → List Float → List ℕ
+frame_bits b llr = chosen_bits (frame_decode b llr) b.limit (size_k b.code)
 
-abbrev pub frameCount : Batch → List Float → ℕ
-frameCount b llr = chosenCount (frameDecode b llr) b.limit
+abbrev pub frame_count : Batch → List Float → ℕ
+frame_count b llr = chosen_count (frame_decode b llr) b.limit
 
-abbrev pub frameRounds : Batch → List Float → ℕ
-frameRounds b llr = roundsRun (frameDecode b llr) b.limit
+abbrev pub frame_rounds : Batch → List Float → ℕ
+frame_rounds b llr = rounds_run (frame_decode b llr) b.limit
 
-abbrev pub frameFirst : Batch → List Float → ℕ
-frameFirst b llr = placeOf (chosenFirst (frameDecode b llr) b.limit)
+abbrev pub frame_first : Batch → List Float → ℕ
+frame_first b llr = place_of (chosen_first (frame_decode b llr) b.limit)
 
 -- "Frame j's K bits go to bytes j times K onward .., its count, a u16, to place j." The work area: "its first 3,070 are +0.0 and the rest are unchanged".
 -- Of a call with groups these are the numbers, and the bits before the overwriting (change request N13, crate `groups`).
 unfoldable pub written : Batch → Lent
 written b = record {
-  bits = joined (map (frameBits b) (frames b));
-  counts = map (frameCount b) (frames b);
-  rounds = map (frameRounds b) (frames b);
-  firsts = map (frameFirst b) (frames b);
+  bits = joined (map (frame_bits b) (frames b));
+  counts = map (frame_count b) (frames b);
+  rounds = map (frame_rounds b) (frames b);
+  firsts = map (frame_first b) (frames b);
   work = cleared b.memory.work;
 }
 

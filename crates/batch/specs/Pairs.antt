@@ -1,3 +1,3 @@
 -- A pair, and the frames that pairs name: defined in crate `batch_refusals` (specs/Pairs.antt), and passed on.
-pub use Rattle.batch_refusals.specs.Pairs.{Pair, pair, framesOf, AllWithin}
-unfoldable pub use Rattle.batch_refusals.specs.Pairs.{pairsOf, frame_of}
+pub use Rattle.batch_refusals.specs.Pairs.{Pair, pair, frames_of, AllWithin}
+unfoldable pub use Rattle.batch_refusals.specs.Pairs.{pairs_of, frame_of}

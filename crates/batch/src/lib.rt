@@ -1,8 +1,8 @@
 // The batch: many frames of one code, decoded one after another in one work area.
 ghost use Rattle.std.specs.Prelude.{◌≡◌};
-ghost use Rattle.refusal.specs.Answers.{statusOf};
-ghost use Rattle.rules.specs.Rules.{asStored};
-ghost use Rattle.batch.specs.Pairs.{pairsOf};
+ghost use Rattle.refusal.specs.Answers.{status_of};
+ghost use Rattle.rules.specs.Rules.{as_stored};
+ghost use Rattle.batch.specs.Pairs.{pairs_of};
 ghost use Rattle.batch.specs.Calls.{lent, batch, written, Answered};
 ghost use Rattle.batch.specs.Steps.{Fitting};
 
@@ -23,10 +23,10 @@ fn decode_frames(
     firsts: &mut [u16],
     work: &mut [f32],
 )
-    requires { Fitting (batch code rule limit scale values.now (pairsOf pairs.now)
+    requires { Fitting (batch code rule limit scale values.now (pairs_of pairs.now)
         (lent bits.old counts.old rounds.old firsts.old work.old)) }
     ensures { lent bits.new counts.new rounds.new firsts.new work.new
-        ≡ written (batch code rule limit scale values.now (pairsOf pairs.now)
+        ≡ written (batch code rule limit scale values.now (pairs_of pairs.now)
         (lent bits.old counts.old rounds.old firsts.old work.old)) }
 {
     let mut j = 0;
@@ -65,9 +65,9 @@ pub fn decode_batch(
     work: &mut [f32],
 ) -> Status
     ensures { Answered
-        (batch code rule limit scale values.now (pairsOf pairs.now)
+        (batch code rule limit scale values.now (pairs_of pairs.now)
         (lent bits.old counts.old rounds.old firsts.old work.old))
-        (statusOf result)
+        (status_of result)
         (lent bits.new counts.new rounds.new firsts.new work.new) }
 {
     let room = Room {
@@ -101,9 +101,9 @@ pub fn decode_stored_batch(
     work: &mut [f32],
 ) -> Status
     ensures { Answered
-        (batch code (asStored rule) limit scale values.now (pairsOf pairs.now)
+        (batch code (as_stored rule) limit scale values.now (pairs_of pairs.now)
         (lent bits.old counts.old rounds.old firsts.old work.old))
-        (statusOf result)
+        (status_of result)
         (lent bits.new counts.new rounds.new firsts.new work.new) }
 {
     decode_batch(

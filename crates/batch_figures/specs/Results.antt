@@ -1,11 +1,11 @@
 -- What a batch's call left, as the reception figures count it (change request N5): its frames, and when they are refused.
 use Rattle.std.specs.Prelude.{not, List, [], ◌∷◌, ◌++◌, ℕ, zero, suc, ◌*◌, eqb, ltb, Float, length, get_or}
 use Rattle.refusal.specs.Outcome.{Outcome, Condition, ◌when◌, judged}
-use Rattle.batch.specs.Codes.{sizeN, sizeK}
-use Rattle.batch.specs.Pairs.{Pair, framesOf}
-use Rattle.batch.specs.Calls.{Lent, Batch, pairRefusals}
-use Rattle.clean_frames.specs.CleanFrames.{cleanOf}
-use Rattle.figures.specs.Totals.{Frame, totalsOf, sums, joinRefusals}
+use Rattle.batch.specs.Codes.{size_n, size_k}
+use Rattle.batch.specs.Pairs.{Pair, frames_of}
+use Rattle.batch.specs.Calls.{Lent, Batch, pair_refusals}
+use Rattle.clean_frames.specs.CleanFrames.{clean_of}
+use Rattle.figures.specs.Totals.{Frame, totals_of, sums, join_refusals}
 use Rattle.figures.specs.declared.Totals.{Totals}
 
 -- ---- what is handed over
@@ -33,35 +33,35 @@ abbrev pub frame_at : Results → ℕ → Frame
 frame_at r j = record {
   count = get_or r.counts j 0;
   rounds = get_or r.rounds j 0;
-  clean = cleanOf r.code (framesOf r.values r.pairs) r.counts r.bits j;
+  clean = clean_of r.code (frames_of r.values r.pairs) r.counts r.bits j;
 }
 
 -- n frames, the first that of place j
-unfoldable pub framesFrom : (ℕ → Frame) → ℕ → ℕ → List Frame
-framesFrom frame j zero = []
-framesFrom frame j (suc n) = frame j ∷ framesFrom frame (suc j) n
+unfoldable pub frames_from : (ℕ → Frame) → ℕ → ℕ → List Frame
+frames_from frame j zero = []
+frames_from frame j (suc n) = frame j ∷ frames_from frame (suc j) n
 
 -- one frame a pair, in place order
-unfoldable pub batchFrames : Results → List Frame
-batchFrames r = framesFrom (frame_at r) 0 (length r.pairs)
+unfoldable pub batch_frames : Results → List Frame
+batch_frames r = frames_from (frame_at r) 0 (length r.pairs)
 
 -- ---- the call that adds them to a total
 
 -- Each as the batch itself refuses it, in its order: "1: code not .. 0-3", "7: over 24 pairs", "8: an output not exactly its length" (the outputs of the
 -- batch that are handed over), and 10 to 12 "pair by pair".
-unfoldable pub resultRefusals : Results → List Condition
-resultRefusals r =
+unfoldable pub result_refusals : Results → List Condition
+result_refusals r =
     (1 when ltb 3 r.code)
     ∷ (7 when ltb 24 (length r.pairs))
-    ∷ (8 when not (eqb (length r.bits) (length r.pairs * sizeK r.code)))
+    ∷ (8 when not (eqb (length r.bits) (length r.pairs * size_k r.code)))
     ∷ (8 when not (eqb (length r.counts) (length r.pairs)))
     ∷ (8 when not (eqb (length r.rounds) (length r.pairs)))
-    ∷ pairRefusals (sizeN r.code) (length r.values) 0 r.pairs
+    ∷ pair_refusals (size_n r.code) (length r.values) 0 r.pairs
 
 -- "14 when a sum would pass its limit", tested last
-abbrev pub addRefusals : Totals → Results → List Condition
-addRefusals t r = resultRefusals r ++ joinRefusals t (totalsOf (batchFrames r))
+abbrev pub add_refusals : Totals → Results → List Condition
+add_refusals t r = result_refusals r ++ join_refusals t (totals_of (batch_frames r))
 
 -- the total with the batch's frames; where a number is answered, it is "as before"
 abbrev pub added : Totals → Results → Outcome Totals
-added t r = judged (addRefusals t r) (sums t (totalsOf (batchFrames r)))
+added t r = judged (add_refusals t r) (sums t (totals_of (batch_frames r)))

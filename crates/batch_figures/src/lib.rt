@@ -1,12 +1,12 @@
 // Reception figures of batches: what a batch's call left, added to a total.
 ghost use Rattle.std.specs.Prelude.{◌≡◌, ◌*◌, ◌≤◌, length};
 ghost use Rattle.refusal.specs.Outcome.{judged};
-ghost use Rattle.refusal.specs.Answers.{statusOf};
-ghost use Rattle.batch.specs.Codes.{sizeN, sizeK};
-ghost use Rattle.batch.specs.Pairs.{pairsOf, AllWithin};
-ghost use Rattle.figures.specs.Totals.{summedOf, totalsOf, sums, joinRefusals};
-ghost use Rattle.batch_figures.specs.Results.{results, batchFrames, resultRefusals, added};
-ghost use Rattle.batch_figures.specs.Steps.{withFrame};
+ghost use Rattle.refusal.specs.Answers.{status_of};
+ghost use Rattle.batch.specs.Codes.{size_n, size_k};
+ghost use Rattle.batch.specs.Pairs.{pairs_of, AllWithin};
+ghost use Rattle.figures.specs.Totals.{summed_of, totals_of, sums, join_refusals};
+ghost use Rattle.batch_figures.specs.Results.{results, batch_frames, result_refusals, added};
+ghost use Rattle.batch_figures.specs.Steps.{with_frame};
 
 use batch_refusals::Room;
 use figures::{Summed, Totals};
@@ -24,8 +24,8 @@ fn results_fault(
     counts: &[u16],
     rounds: &[u16],
 ) -> Status
-    ensures { statusOf result ≡ judged (resultRefusals
-        (results code values.now (pairsOf pairs.now) bits.now counts.now rounds.now)) tt }
+    ensures { status_of result ≡ judged (result_refusals
+        (results code values.now (pairs_of pairs.now) bits.now counts.now rounds.now)) tt }
 {
     let room = Room {
         bits: bits.len(),
@@ -41,7 +41,7 @@ fn results_fault(
 
 // The sum with one frame more.
 fn with_frame(sum: Summed, count: u16, rounds: u16, clean: bool) -> Summed
-    ensures { summedOf result ≡ withFrame (summedOf sum) (record { count = count; rounds = rounds; clean = clean }) }
+    ensures { summed_of result ≡ with_frame (summed_of sum) (record { count = count; rounds = rounds; clean = clean }) }
 {
     let Summed::Is(total) = sum else {
         return sum;
@@ -59,13 +59,13 @@ fn add_frames(
     counts: &[u16],
     rounds: &[u16],
 ) -> Summed
-    requires all_within { AllWithin (sizeN code) (length values.now) (pairsOf pairs.now) }
-    requires pairs_len_bound { length (pairsOf pairs.now) ≤ 24 }
-    requires counts_len { (length counts.now ≡ length (pairsOf pairs.now)) × (length bits.now ≡ length (pairsOf pairs.now) * sizeK code) }
-    requires rounds_len { length rounds.now ≡ length (pairsOf pairs.now) }
-    ensures { summedOf result ≡ (let t = totalsOf (batchFrames
-        (results code values.now (pairsOf pairs.now) bits.now counts.now rounds.now)) in
-        judged (joinRefusals total t) (sums total t)) }
+    requires all_within { AllWithin (size_n code) (length values.now) (pairs_of pairs.now) }
+    requires pairs_len_bound { length (pairs_of pairs.now) ≤ 24 }
+    requires counts_len { (length counts.now ≡ length (pairs_of pairs.now)) × (length bits.now ≡ length (pairs_of pairs.now) * size_k code) }
+    requires rounds_len { length rounds.now ≡ length (pairs_of pairs.now) }
+    ensures { summed_of result ≡ (let t = totals_of (batch_frames
+        (results code values.now (pairs_of pairs.now) bits.now counts.now rounds.now)) in
+        judged (join_refusals total t) (sums total t)) }
 {
     let mut sum = Summed::Is(total);
     let mut j = 0;
@@ -89,8 +89,8 @@ pub fn add_batch(
     counts: &[u16],
     rounds: &[u16],
 ) -> Summed
-    ensures { summedOf result ≡ added total
-        (results code values.now (pairsOf pairs.now) bits.now counts.now rounds.now) }
+    ensures { summed_of result ≡ added total
+        (results code values.now (pairs_of pairs.now) bits.now counts.now rounds.now) }
 {
     if let Status::Refused(r) = results_fault(code, values, pairs, bits, counts, rounds) {
         return Summed::Refused(r);

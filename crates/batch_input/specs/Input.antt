@@ -6,53 +6,53 @@ use Rattle.std.specs.Float.Ieee.{of_bits}
 
 -- ---- little-endian numbers
 
-abbrev pub u16At : List ℕ → ℕ → ℕ
-u16At s i = get_or s i 0 + 256 * get_or s (i + 1) 0
+abbrev pub u16_at : List ℕ → ℕ → ℕ
+u16_at s i = get_or s i 0 + 256 * get_or s (i + 1) 0
 
 abbrev pub u32_at : List ℕ → ℕ → ℕ
-u32_at s i = u16At s i + 65536 * u16At s (i + 2)
+u32_at s i = u16_at s i + 65536 * u16_at s (i + 2)
 
 -- n of them, one after the other, each read by f
-unfoldable pub u32sFrom : {A : Type 0} → (ℕ → A) → List ℕ → ℕ → ℕ → List A
-u32sFrom f s i zero = []
-u32sFrom f s i (suc n) = f (u32_at s i) ∷ u32sFrom f s (i + 4) n
+unfoldable pub u32s_from : {A : Type 0} → (ℕ → A) → List ℕ → ℕ → ℕ → List A
+u32s_from f s i zero = []
+u32s_from f s i (suc n) = f (u32_at s i) ∷ u32s_from f s (i + 4) n
 
 -- ---- the header
 
 abbrev pub code_of : List ℕ → ℕ
 code_of s = get_or s 0 0
 
-abbrev pub ruleOf : List ℕ → ℕ
-ruleOf s = get_or s 1 0
+abbrev pub rule_of : List ℕ → ℕ
+rule_of s = get_or s 1 0
 
-abbrev pub limitOf : List ℕ → ℕ
-limitOf s = u16At s 2
+abbrev pub limit_of : List ℕ → ℕ
+limit_of s = u16_at s 2
 
 -- bits of a NaN are NaN, whatever its payload
-unfoldable pub floatOf : ℕ → Float
-floatOf bits = of_bits binary32 bits
+unfoldable pub float_of : ℕ → Float
+float_of bits = of_bits binary32 bits
 
 abbrev pub scale_of : List ℕ → Float
-scale_of s = floatOf (u32_at s 4)
+scale_of s = float_of (u32_at s 4)
 
-abbrev pub pairCount : List ℕ → ℕ
-pairCount s = u16At s 8
+abbrev pub pair_count : List ℕ → ℕ
+pair_count s = u16_at s 8
 
 -- the bytes of the header and the pairs, eight a pair
-abbrev pub valuesStart : List ℕ → ℕ
-valuesStart s = 12 + 8 * pairCount s
+abbrev pub values_start : List ℕ → ℕ
+values_start s = 12 + 8 * pair_count s
 
 -- ---- what follows it
 
 -- offset, length, offset, length ..
-unfoldable pub pairNumbers : List ℕ → List ℕ
-pairNumbers s = u32sFrom (λ w. w) s 12 (2 * pairCount s)
+unfoldable pub pair_numbers : List ℕ → List ℕ
+pair_numbers s = u32s_from (λ w. w) s 12 (2 * pair_count s)
 
-abbrev pub valueCount : List ℕ → ℕ
-valueCount s = (length s - valuesStart s) / 4
+abbrev pub value_count : List ℕ → ℕ
+value_count s = (length s - values_start s) / 4
 
 unfoldable pub values_of : List ℕ → List Float
-values_of s = u32sFrom floatOf s (valuesStart s) (valueCount s)
+values_of s = u32s_from float_of s (values_start s) (value_count s)
 
 -- ---- refusal 13
 
@@ -63,5 +63,5 @@ malformed s =
     || ltb (length s) 12
     || not (eqb (get_or s 10 0) 0)
     || not (eqb (get_or s 11 0) 0)
-    || ltb (length s) (valuesStart s)
-    || not (eqb ((length s - valuesStart s) % 4) 0)
+    || ltb (length s) (values_start s)
+    || not (eqb ((length s - values_start s) % 4) 0)

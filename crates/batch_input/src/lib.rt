@@ -1,6 +1,6 @@
 // The input of a program that reads a batch: little-endian numbers, the header, the pairs and the values.
 ghost use Rattle.std.specs.Prelude.{◌≡◌, false, ◌+◌, ◌*◌, ◌<◌, ◌≤◌, min, length, take};
-ghost use Rattle.batch_input.specs.Input.{u16At, u32_at, u32sFrom, floatOf, pairCount, valuesStart, pairNumbers, values_of, malformed};
+ghost use Rattle.batch_input.specs.Input.{u16_at, u32_at, u32s_from, float_of, pair_count, values_start, pair_numbers, values_of, malformed};
 ghost use Rattle.batch_input.specs.Read.{Read, HeaderOf};
 
 // The numbers that a frame is decoded by.
@@ -14,7 +14,7 @@ pub struct Header {
 
 pub fn u16_at(s: &[u8], i: usize) -> u16
     requires { i + 2 ≤ length s.now }
-    ensures { result ≡ u16At s.now i }
+    ensures { result ≡ u16_at s.now i }
 {
     s[i] as u16 + 256 * (s[i + 1] as u16)
 }
@@ -30,7 +30,7 @@ pub fn u32_at(s: &[u8], i: usize) -> u32
 
 // The float of the bits; a NaN's bits give a NaN that an operation makes.
 pub fn float_of(bits: u32) -> f32
-    ensures { result ≡ floatOf bits }
+    ensures { result ≡ float_of bits }
 {
     if bits % 2147483648 > 2139095040 {
         0.0 / 0.0
@@ -42,7 +42,7 @@ pub fn float_of(bits: u32) -> f32
 // The numbers from `at` on, as many as the slice has places.
 pub fn load_words(input: &[u8], at: usize, words: &mut [u32])
     requires { at + 4 * length words.old ≤ length input.now }
-    ensures { words.new ≡ u32sFrom (λ w. w) input.now at (length words.old) }
+    ensures { words.new ≡ u32s_from (λ w. w) input.now at (length words.old) }
 {
     let mut i = 0;
     while i < words.len() {
@@ -54,7 +54,7 @@ pub fn load_words(input: &[u8], at: usize, words: &mut [u32])
 // The floats from `at` on, as many as the slice has places.
 pub fn load_values(input: &[u8], at: usize, values: &mut [f32])
     requires { at + 4 * length values.old ≤ length input.now }
-    ensures { values.new ≡ u32sFrom floatOf input.now at (length values.old) }
+    ensures { values.new ≡ u32s_from float_of input.now at (length values.old) }
 {
     let mut i = 0;
     while i < values.len() {
@@ -81,7 +81,7 @@ pub fn read_header(input: &[u8]) -> Header
 
 pub fn pair_count(input: &[u8]) -> usize
     requires { 12 ≤ length input.now }
-    ensures value { result ≡ pairCount input.now }
+    ensures value { result ≡ pair_count input.now }
     ensures upper_bound { result < 65536 }
 {
     u16_at(input, 8) as usize
@@ -89,7 +89,7 @@ pub fn pair_count(input: &[u8]) -> usize
 
 pub fn values_start(input: &[u8]) -> usize
     requires { 12 ≤ length input.now }
-    ensures { result ≡ valuesStart input.now }
+    ensures { result ≡ values_start input.now }
 {
     12 + 8 * pair_count(input)
 }
@@ -143,7 +143,7 @@ fn words_passed(frames: usize) -> usize
 pub fn read_pairs(input: &[u8], pairs: &mut [u32]) -> usize
     requires input_value { malformed input.now ≡ false }
     requires in_bounds { 50 ≤ length pairs.old }
-    ensures { Read (take 50 (pairNumbers input.now)) pairs.new result }
+    ensures { Read (take 50 (pair_numbers input.now)) pairs.new result }
 {
     let words = words_passed(pair_count(input));
     load_words(input, 12, &mut pairs[..words]);

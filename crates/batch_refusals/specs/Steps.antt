@@ -4,21 +4,21 @@ use Rattle.std.specs.Prelude.{ℕ, ◌+◌}
 use Rattle.refusal.specs.Outcome.{Outcome, accepted, refused, judged}
 use Rattle.refusal.specs.Numbers.{number_of}
 use Rattle.batch_refusals.specs.Pairs.{Pair}
-use Rattle.batch_refusals.specs.Refusals.{pairTests}
+use Rattle.batch_refusals.specs.Refusals.{pair_tests}
 use Rattle.batch_refusals.specs.declared.Seen.{Seen}
 use Rattle.batch_refusals.specs.declared.Seen.TheVariants.{Until, Refused}
 
 -- what the pairs so far come to: where the last of them ends, or a refusal
-abbrev pub seenOf : Seen → Outcome ℕ
-seenOf (Until end) = accepted end
-seenOf (Refused r) = refused (number_of r)
+abbrev pub seen_of : Seen → Outcome ℕ
+seen_of (Until end) = accepted end
+seen_of (Refused r) = refused (number_of r)
 
 -- with one pair more
-unfoldable pub nextSeen : ℕ → ℕ → Outcome ℕ → Pair → Outcome ℕ
-nextSeen n values (accepted end) p = judged (pairTests n values end p) (p.offset + p.size)
-nextSeen n values (refused k) p = refused k
+unfoldable pub next_seen : ℕ → ℕ → Outcome ℕ → Pair → Outcome ℕ
+next_seen n values (accepted end) p = judged (pair_tests n values end p) (p.offset + p.size)
+next_seen n values (refused k) p = refused k
 
 -- where no pair is left
-abbrev pub seenAll : Outcome ℕ → Outcome Unit
-seenAll (accepted end) = accepted tt
-seenAll (refused k) = refused k
+abbrev pub seen_all : Outcome ℕ → Outcome Unit
+seen_all (accepted end) = accepted tt
+seen_all (refused k) = refused k

@@ -1,11 +1,11 @@
 // What a batch is refused for: the numbers and the lengths, then the pairs, one after another; and the sizes by which they are measured.
 ghost use Rattle.std.specs.Prelude.{◌≡◌, ◌<◌};
 ghost use Rattle.refusal.specs.Outcome.{judged};
-ghost use Rattle.refusal.specs.Answers.{statusOf};
-ghost use Rattle.numbered.specs.Codes.{sizeN, sizeK};
-ghost use Rattle.batch_refusals.specs.Pairs.{pair, pairsOf};
-ghost use Rattle.batch_refusals.specs.Refusals.{ruleNotOfCode, pairTests, pairRefusals, headRefusals, refusalsOf};
-ghost use Rattle.batch_refusals.specs.Steps.{seenOf, nextSeen, seenAll};
+ghost use Rattle.refusal.specs.Answers.{status_of};
+ghost use Rattle.numbered.specs.Codes.{size_n, size_k};
+ghost use Rattle.batch_refusals.specs.Pairs.{pair, pairs_of};
+ghost use Rattle.batch_refusals.specs.Refusals.{rule_not_of_code, pair_tests, pair_refusals, head_refusals, refusals_of};
+ghost use Rattle.batch_refusals.specs.Steps.{seen_of, next_seen, seen_all};
 
 use refusal::{Refusal, Status};
 use work_area::WORK;
@@ -25,7 +25,7 @@ pub struct Room {
 
 // N of a code.
 pub fn frame_values(code: u32) -> usize
-    ensures { result ≡ sizeN code }
+    ensures { result ≡ size_n code }
 {
     if code > 2 {
         return ldpc::N;
@@ -35,7 +35,7 @@ pub fn frame_values(code: u32) -> usize
 
 // K of a code.
 pub fn message_bits(code: u32) -> usize
-    ensures { result ≡ sizeK code }
+    ensures { result ≡ size_k code }
 {
     if code > 2 {
         return ldpc::K;
@@ -47,7 +47,7 @@ pub fn message_bits(code: u32) -> usize
 
 // Whether that rule is none of the code's.
 pub fn rule_not_of_code(code: u32, rule: u32) -> bool
-    ensures { result ≡ ruleNotOfCode code rule }
+    ensures { result ≡ rule_not_of_code code rule }
 {
     if code != 3 {
         return rule == 4;
@@ -60,7 +60,7 @@ pub fn rule_not_of_code(code: u32, rule: u32) -> bool
 
 // The numbers and the lengths, in the order of document 01's table.
 pub fn head_fault(code: u32, rule: u32, pairs: usize, room: Room) -> Status
-    ensures { statusOf result ≡ judged (headRefusals code rule pairs room) tt }
+    ensures { status_of result ≡ judged (head_refusals code rule pairs room) tt }
 {
     if code > 3 {
         return Status::Refused(Refusal::UnknownCode);
@@ -96,7 +96,7 @@ pub fn head_fault(code: u32, rule: u32, pairs: usize, room: Room) -> Status
 fn pair_fault(n: usize, values: usize, end: usize, offset: usize, size: usize) -> Status
     requires offset_bound { offset < 4294967296 }
     requires size_bound { size < 4294967296 }
-    ensures { statusOf result ≡ judged (pairTests n values end (pair offset size)) tt }
+    ensures { status_of result ≡ judged (pair_tests n values end (pair offset size)) tt }
 {
     if size != n {
         return Status::Refused(Refusal::PairLength);
@@ -119,7 +119,7 @@ pub enum Seen {
 
 // One pair more.
 pub fn next_pair(seen: Seen, n: usize, values: usize, offset: u32, size: u32) -> Seen
-    ensures { seenOf result ≡ nextSeen n values (seenOf seen) (pair offset size) }
+    ensures { seen_of result ≡ next_seen n values (seen_of seen) (pair offset size) }
 {
     let Seen::Until(end) = seen else {
         return seen;
@@ -134,7 +134,7 @@ pub fn next_pair(seen: Seen, n: usize, values: usize, offset: u32, size: u32) ->
 
 // The answer, where no pair is left.
 pub fn seen_all(seen: Seen) -> Status
-    ensures { statusOf result ≡ seenAll (seenOf seen) }
+    ensures { status_of result ≡ seen_all (seen_of seen) }
 {
     match seen {
         Seen::Until(_) => Status::Done,
@@ -144,7 +144,7 @@ pub fn seen_all(seen: Seen) -> Status
 
 // The pairs, one after another: the first faulty one decides.
 fn pairs_fault(n: usize, values: usize, pairs: &[u32]) -> Status
-    ensures { statusOf result ≡ judged (pairRefusals n values 0 (pairsOf pairs.now)) tt }
+    ensures { status_of result ≡ judged (pair_refusals n values 0 (pairs_of pairs.now)) tt }
 {
     let mut seen = Seen::Until(0);
     let mut i = 0;
@@ -157,7 +157,7 @@ fn pairs_fault(n: usize, values: usize, pairs: &[u32]) -> Status
 
 // Whether a batch over so many values is turned down, and by which number: the numbers and the lengths, then the pairs.
 pub fn batch_fault(code: u32, rule: u32, values: usize, pairs: &[u32], room: Room) -> Status
-    ensures { statusOf result ≡ judged (refusalsOf code rule values (pairsOf pairs.now) room) tt }
+    ensures { status_of result ≡ judged (refusals_of code rule values (pairs_of pairs.now) room) tt }
 {
     if let Status::Refused(r) = head_fault(code, rule, pairs.len() / 2, room) {
         return Status::Refused(r);

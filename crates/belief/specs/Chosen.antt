@@ -1,12 +1,12 @@
 -- What it is to be the chosen word: the first of the least count among the words of a decode.
 use Rattle.std.specs.Prelude.{◌≡◌, List, [], ◌∷◌, ℕ, ◌<◌, ◌≤◌, length, get_or}
 use Rattle.tanner.specs.Checks.{Word, Checks, count}
-use Rattle.one_round.specs.Round.{Decode, initialWord}
-use Rattle.rounds.specs.Rounds.{roundWords}
+use Rattle.one_round.specs.Round.{Decode, initial_word}
+use Rattle.rounds.specs.Rounds.{round_words}
 
 -- "the initial hard word and the words of the rounds run"
 abbrev pub words : Decode → ℕ → List Word
-words d limit = initialWord d ∷ roundWords d limit
+words d limit = initial_word d ∷ round_words d limit
 
 -- the word at place i
 abbrev pub word_at : List Word → ℕ → Word

@@ -2,8 +2,8 @@
 -- limit".
 use Rattle.std.specs.Prelude.{◌≡◌, List, ℕ, suc, ◌<◌}
 use Rattle.tanner.specs.Checks.{Word, Checks, count}
-use Rattle.one_round.specs.Round.{Decode, initialWord}
-use Rattle.rounds.specs.Rounds.{roundWords}
+use Rattle.one_round.specs.Round.{Decode, initial_word}
+use Rattle.rounds.specs.Rounds.{round_words}
 use Rattle.belief.specs.Chosen.{word_at}
 
 -- of a list of words, of which the word at place j is that of round j + 1
@@ -15,5 +15,5 @@ pub data StoppedAt (cs : Checks) (limit : ℕ) (ws : List Word) : ℕ → Type 0
 
 pub data RoundsAre (d : Decode) (limit : ℕ) : ℕ → Type 0 where
   -- "0 if the initial word's count is 0"
-  none : count d.checks (initialWord d) ≡ 0 → RoundsAre d limit 0
-  some : {n : ℕ} → (count d.checks (initialWord d) ≡ 0 → ⊥) → StoppedAt d.checks limit (roundWords d limit) n → RoundsAre d limit n
+  none : count d.checks (initial_word d) ≡ 0 → RoundsAre d limit 0
+  some : {n : ℕ} → (count d.checks (initial_word d) ≡ 0 → ⊥) → StoppedAt d.checks limit (round_words d limit) n → RoundsAre d limit n

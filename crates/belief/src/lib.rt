@@ -1,9 +1,9 @@
 // The round loop that both decoders run, at the code with a given number and by any decode rule: the messages lie by slots in a lent work area.
 ghost use Rattle.std.specs.Prelude.{◌≡◌, ◌<◌, ◌≤◌, length};
-ghost use Rattle.passes.specs.Codes.{sizeN, checksBy, room};
+ghost use Rattle.passes.specs.Codes.{size_n, checks_by, room};
 ghost use Rattle.work_area.specs.Area.{cleared};
-ghost use Rattle.one_round.specs.Round.{initialWord};
-ghost use Rattle.one_round.specs.Held.{decodeAt};
+ghost use Rattle.one_round.specs.Round.{initial_word};
+ghost use Rattle.one_round.specs.Held.{decode_at};
 ghost use Rattle.rounds.specs.Told.{Chose};
 ghost use Rattle.rounds.specs.Run.{Kept};
 
@@ -23,12 +23,12 @@ fn improve(
     bits: &mut [u8],
 ) -> Decoded
     requires code_bound { code < 4 }
-    requires llr_len { length llr.now ≡ sizeN code }
+    requires llr_len { length llr.now ≡ size_n code }
     requires messages_len { length messages.old ≡ room code }
-    requires hard_value { hard.old ≡ initialWord (decodeAt code rule llr.now) }
-    requires bits_len_bound { length bits.old ≤ sizeN code }
-    requires kept { Kept (checksBy code) (length bits.old) hard.old bits.old first }
-    ensures { Chose (decodeAt code rule llr.now) limit (length bits.old) result bits.new }
+    requires hard_value { hard.old ≡ initial_word (decode_at code rule llr.now) }
+    requires bits_len_bound { length bits.old ≤ size_n code }
+    requires kept { Kept (checks_by code) (length bits.old) hard.old bits.old first }
+    ensures { Chose (decode_at code rule llr.now) limit (length bits.old) result bits.new }
 {
     if first.count == 0 {
         return Decoded {
@@ -52,11 +52,11 @@ fn choose(
     bits: &mut [u8],
 ) -> Decoded
     requires code_bound { code < 4 }
-    requires llr_len { length llr.now ≡ sizeN code }
+    requires llr_len { length llr.now ≡ size_n code }
     requires messages_len { length messages.old ≡ room code }
-    requires hard_len { length hard.old ≡ sizeN code }
-    requires bits_len_bound { length bits.old ≤ sizeN code }
-    ensures { Chose (decodeAt code rule llr.now) limit (length bits.old) result bits.new }
+    requires hard_len { length hard.old ≡ size_n code }
+    requires bits_len_bound { length bits.old ≤ size_n code }
+    ensures { Chose (decode_at code rule llr.now) limit (length bits.old) result bits.new }
 {
     work_area::initial_word(llr, hard);
     let first = one_round::counted(code, hard);
@@ -75,10 +75,10 @@ pub fn decode_uncleared(
     work: &mut [f32],
 ) -> Decoded
     requires code_bound { code < 4 }
-    requires llr_len { length llr.now ≡ sizeN code }
-    requires bits_len_bound { length bits.old ≤ sizeN code }
+    requires llr_len { length llr.now ≡ size_n code }
+    requires bits_len_bound { length bits.old ≤ size_n code }
     requires in_bounds { 3070 ≤ length work.old }
-    ensures chose { Chose (decodeAt code rule llr.now) limit (length bits.old) result bits.new }
+    ensures chose { Chose (decode_at code rule llr.now) limit (length bits.old) result bits.new }
     ensures work_unchanged { cleared work.new ≡ cleared work.old }
 {
     let mut hard = [0u8; 576];
@@ -105,10 +105,10 @@ pub fn decode(
     work: &mut [f32],
 ) -> Decoded
     requires code_bound { code < 4 }
-    requires llr_len { length llr.now ≡ sizeN code }
-    requires bits_len_bound { length bits.old ≤ sizeN code }
+    requires llr_len { length llr.now ≡ size_n code }
+    requires bits_len_bound { length bits.old ≤ size_n code }
     requires in_bounds { 3070 ≤ length work.old }
-    ensures chose { Chose (decodeAt code rule llr.now) limit (length bits.old) result bits.new }
+    ensures chose { Chose (decode_at code rule llr.now) limit (length bits.old) result bits.new }
     ensures work_after { work.new ≡ cleared work.old }
 {
     let decoded = decode_uncleared(code, rule, limit, llr, bits, work);

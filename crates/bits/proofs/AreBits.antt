@@ -9,20 +9,20 @@ pub data AreBits : List ℕ → Type 0 where
   none : AreBits []
   more : {b : ℕ} {bs : List ℕ} → b < 2 → AreBits bs → AreBits (b ∷ bs)
 
-pub areBits-append : {xs ys : List ℕ} → AreBits xs → AreBits ys → AreBits (xs ++ ys)
-areBits-append none k = k
-areBits-append (more h hs) k = more h (areBits-append hs k)
+pub are_bits_append : {xs ys : List ℕ} → AreBits xs → AreBits ys → AreBits (xs ++ ys)
+are_bits_append none k = k
+are_bits_append (more h hs) k = more h (are_bits_append hs k)
 
-pub areBits-take : (n : ℕ) {xs : List ℕ} → AreBits xs → AreBits (take n xs)
-areBits-take zero h = none
-areBits-take (suc n) none = none
-areBits-take (suc n) (more h hs) = more h (areBits-take n hs)
+pub are_bits_take : (n : ℕ) {xs : List ℕ} → AreBits xs → AreBits (take n xs)
+are_bits_take zero h = none
+are_bits_take (suc n) none = none
+are_bits_take (suc n) (more h hs) = more h (are_bits_take n hs)
 
-pub zeros-are : (n : ℕ) → AreBits (replicate n 0)
-zeros-are zero = none
-zeros-are (suc n) = more {b = 0} (omega arith) (zeros-are n)
+pub zeros_are : (n : ℕ) → AreBits (replicate n 0)
+zeros_are zero = none
+zeros_are (suc n) = more {b = 0} (omega arith) (zeros_are n)
 
-pub areBits-drop : (n : ℕ) {bs : List ℕ} → AreBits bs → AreBits (drop n bs)
-areBits-drop zero h = h
-areBits-drop (suc n) none = none
-areBits-drop (suc n) (more h hs) = areBits-drop n hs
+pub are_bits_drop : (n : ℕ) {bs : List ℕ} → AreBits bs → AreBits (drop n bs)
+are_bits_drop zero h = h
+are_bits_drop (suc n) none = none
+are_bits_drop (suc n) (more h hs) = are_bits_drop n hs

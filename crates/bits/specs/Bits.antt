@@ -12,16 +12,16 @@ bits [] = []
 bits (b ∷ bs) = bits_of 8 b ++ bits bs
 
 -- the bytes that n bits need
-abbrev pub bytesFor : ℕ → ℕ
-bytesFor n = (n + 7) / 8
+abbrev pub bytes_for : ℕ → ℕ
+bytes_for n = (n + 7) / 8
 
 -- the number that bits write, with n written in front of them
-unfoldable pub numberAfter : ℕ → List ℕ → ℕ
-numberAfter n [] = n
-numberAfter n (b ∷ bs) = numberAfter (n * 2 + b) bs
+unfoldable pub number_after : ℕ → List ℕ → ℕ
+number_after n [] = n
+number_after n (b ∷ bs) = number_after (n * 2 + b) bs
 
 abbrev pub number : List ℕ → ℕ
-number bs = numberAfter 0 bs
+number bs = number_after 0 bs
 
 -- n bytes packed of bits, eight a byte
 unfoldable pub packed : ℕ → List ℕ → List ℕ

@@ -1,11 +1,11 @@
 // Numbers, bytes and the bits that they write: definitions (`specs/Bits.antt`) and laws (`proofs/Digits.antt`, `proofs/Packed.antt`) for the crates above,
 // and the number of bytes that bits need.
 ghost use Rattle.std.specs.Prelude.{◌≡◌};
-ghost use Rattle.bits.specs.Bits.{bytesFor};
+ghost use Rattle.bits.specs.Bits.{bytes_for};
 
 // How many bytes hold num_bits bits; no sum here passes the largest usize.
 pub fn bytes_for(num_bits: usize) -> usize
-    ensures { result ≡ bytesFor num_bits }
+    ensures { result ≡ bytes_for num_bits }
 {
     num_bits / 8 + (num_bits % 8 + 7) / 8
 }

@@ -2,15 +2,15 @@
 use mathlib.Core.Path.{◌≡◌, refl}
 use mathlib.Core.List.{[], ◌∷◌}
 use lib.Ieee.{Float, nan, binary32, mul, neg, lt, of_bits}
-use Rattle.softmath.specs.Single.{one32, two32, foldFrom}
-use Rattle.softmath.specs.Functions.{magnitudeOf}
-use Rattle.softmath.specs.CheckNode.{overOthers}
-use Rattle.by_others.specs.Others.{othersSum}
+use Rattle.softmath.specs.Single.{one32, two32, fold_from}
+use Rattle.softmath.specs.Functions.{magnitude_of}
+use Rattle.softmath.specs.CheckNode.{over_others}
+use Rattle.by_others.specs.Others.{others_sum}
 
 abbrev three32 : Float
 three32 = of_bits binary32 0x40400000
 
 -- "(P) Min-sum on 2.0, -3.0, 2.0, NaN gives -2.0, 2.0, -2.0, -2.0."
-pub others-case : othersSum one32 (two32 ∷ neg three32 ∷ two32 ∷ nan ∷ []) ≡ neg two32 ∷ two32 ∷ neg two32 ∷ neg two32 ∷ []
-unfolding othersSum overOthers foldFrom magnitudeOf of_bits neg lt mul
-others-case = refl
+pub others_case : others_sum one32 (two32 ∷ neg three32 ∷ two32 ∷ nan ∷ []) ≡ neg two32 ∷ two32 ∷ neg two32 ∷ neg two32 ∷ []
+unfolding others_sum over_others fold_from magnitude_of of_bits neg lt mul
+others_case = refl

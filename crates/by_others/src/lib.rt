@@ -1,11 +1,11 @@
 // The second engine of min-sum: each entry's answer from its other entries alone.
 ghost use Rattle.std.specs.Prelude.{◌≡◌, ◌++◌, length};
-ghost use Rattle.softmath.specs.Single.{foldFrom};
-ghost use Rattle.by_others.specs.Others.{lesserOf, turnedBy, othersAnswer, othersSum};
+ghost use Rattle.softmath.specs.Single.{fold_from};
+ghost use Rattle.by_others.specs.Others.{lesser_of, turned_by, others_answer, others_sum};
 
 // The least magnitude of the part's, and of `start`.
 fn least_from(start: f32, part: &[f32]) -> f32
-    ensures { result ≡ foldFrom lesserOf start part.now }
+    ensures { result ≡ fold_from lesser_of start part.now }
 {
     let mut least = start;
     let mut i = 0;
@@ -18,7 +18,7 @@ fn least_from(start: f32, part: &[f32]) -> f32
 
 // The sign `start`, turned by each negative one of the part.
 fn sign_from(start: f32, part: &[f32]) -> f32
-    ensures { result ≡ foldFrom turnedBy start part.now }
+    ensures { result ≡ fold_from turned_by start part.now }
 {
     let mut sign = start;
     let mut i = 0;
@@ -31,7 +31,7 @@ fn sign_from(start: f32, part: &[f32]) -> f32
 
 // The answer to an entry, from its others alone: those before it and those after it, gone through in row order.
 fn others_answer(scale: f32, before: &[f32], after: &[f32]) -> f32
-    ensures { result ≡ othersAnswer scale (before.now ++ after.now) }
+    ensures { result ≡ others_answer scale (before.now ++ after.now) }
 {
     let sign = sign_from(sign_from(1.0, before), after);
     scale * sign * least_from(least_from(1.0 / 0.0, before), after)
@@ -40,7 +40,7 @@ fn others_answer(scale: f32, before: &[f32], after: &[f32]) -> f32
 // For each entry it goes through the other entries for their least magnitude and their sign.
 pub fn min_sum_by_others(scale: f32, messages: &[f32], answers: &mut [f32])
     requires { length answers.old ≡ length messages.now }
-    ensures { answers.new ≡ othersSum scale messages.now }
+    ensures { answers.new ≡ others_sum scale messages.now }
 {
     let mut i = 0;
     while i < messages.len() {

@@ -8,11 +8,11 @@ use lib.ListN.{length, get_or, drop, set, drop_of_length-le}
 use lib.Seq.{drop-cons}
 use Rattle.slots.specs.Layout.{scattered}
 
-pub scatter-more : (v : Float) (es : List ℕ) (w r : List Float) (i : ℕ) → i < length es
+pub scatter_more : (v : Float) (es : List ℕ) (w r : List Float) (i : ℕ) → i < length es
     → scattered v (drop i es) w ≡ r → scattered v (drop (i + 1) es) (set w (get_or es i 0) v) ≡ r
 unfolding scattered
-scatter-more v es w r i h e = rw (drop-cons es i 0, ← add-one) at e
+scatter_more v es w r i h e = rw (drop-cons es i 0, ← add-one) at e
 
-pub scatter-done : (v : Float) (es : List ℕ) (w r : List Float) (i : ℕ) → length es ≤ i → scattered v (drop i es) w ≡ r → w ≡ r
+pub scatter_done : (v : Float) (es : List ℕ) (w r : List Float) (i : ℕ) → length es ≤ i → scattered v (drop i es) w ≡ r → w ≡ r
 unfolding scattered
-scatter-done v es w r i h e = rw (drop_of_length-le es h) at e
+scatter_done v es w r i h e = rw (drop_of_length-le es h) at e

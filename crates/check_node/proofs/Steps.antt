@@ -7,28 +7,28 @@ use native.Mathlib.Omega.{arith}
 use lib.Ieee.{Float}
 use lib.ListN.{length, length-map}
 use Rattle.softmath.specs.Single.{product}
-use Rattle.softmath.specs.CheckNode.{atEach, checkStep, before, middle, after, minSum, factorOf}
+use Rattle.softmath.specs.CheckNode.{at_each, check_step, before, middle, after, min_sum, factor_of}
 use Rattle.softmath.specs.declared.DecodeRule.{DecodeRule}
 use Rattle.softmath.specs.declared.DecodeRule.TheVariants.{SumProduct, MinSum, ScaledMinSum, Ft8}
-use Rattle.softmath.proofs.Steps.{step-parts}
+use Rattle.softmath.proofs.Steps.{step_parts}
 use Rattle.slots.specs.Columns.{column}
 use Rattle.slots.specs.Layout.{scattered}
 use Rattle.slots.proofs.Columns.{column-map}
 use Rattle.slots.proofs.Scattered.{scattered-length}
-use Rattle.check_node.specs.CheckStep.{AtColumns, padOf}
+use Rattle.check_node.specs.CheckStep.{AtColumns, pad_of}
 
 -- the three passes are the step
 step-columns : (rule : DecodeRule) (m d : ℕ) (w u : List Float) → d * m ≤ length w → length u ≡ length w
     → ((c : ℕ) → c < m → column m d c u ≡ middle rule (column m d c (map (before rule) w)))
-    → (c : ℕ) → c < m → column m d c (map (after rule) u) ≡ checkStep rule (column m d c w)
+    → (c : ℕ) → c < m → column m d c (map (after rule) u) ≡ check_step rule (column m d c w)
 step-columns rule m d w u room wide h c l =
     column-map (after rule) m d c u l (omega arith)
     ∙ ap (map (after rule)) (h c l ∙ ap (middle rule) (column-map (before rule) m d c w l room))
-    ∙ step-parts rule (column m d c w)
+    ∙ step_parts rule (column m d c w)
 
-pub three-passes : (rule : DecodeRule) (m d : ℕ) (w w1 u v : List Float) → ((ts : List Float) → middle rule ts ≡ atEach product ts)
-    → length w ≡ d * m → w1 ≡ map (before rule) w → AtColumns (atEach product) m d w1 u → v ≡ map (after rule) u → AtColumns (checkStep rule) m d w v
-three-passes rule m d w w1 u v mul room e1 b e2 =
+pub three_passes : (rule : DecodeRule) (m d : ℕ) (w w1 u v : List Float) → ((ts : List Float) → middle rule ts ≡ at_each product ts)
+    → length w ≡ d * m → w1 ≡ map (before rule) w → AtColumns (at_each product) m d w1 u → v ≡ map (after rule) u → AtColumns (check_step rule) m d w v
+three_passes rule m d w w1 u v mul room e1 b e2 =
     let wide : length u ≡ length w = b.size ∙ ap length e1 ∙ length-map w (before rule) in
     let together : (c : ℕ) → c < m → column m d c u ≡ middle rule (column m d c (map (before rule) w)) =
     λ c k. b.columns c k ∙ sym (mul (column m d c w1)) ∙ ap (λ (x : List Float). middle rule (column m d c x)) e1
@@ -39,33 +39,33 @@ three-passes rule m d w w1 u v mul room e1 b e2 =
     }
 
 -- the rules that multiply
-pub sum-product-multiplies : (rule : DecodeRule) → rule ≡ SumProduct → (ts : List Float) → middle rule ts ≡ atEach product ts
+pub sum-product_multiplies : (rule : DecodeRule) → rule ≡ SumProduct → (ts : List Float) → middle rule ts ≡ at_each product ts
 unfolding middle
-sum-product-multiplies rule e ts = rw e
+sum-product_multiplies rule e ts = rw e
 
-pub ft8-multiplies : (rule : DecodeRule) → rule ≡ Ft8 → (ts : List Float) → middle rule ts ≡ atEach product ts
+pub ft8_multiplies : (rule : DecodeRule) → rule ≡ Ft8 → (ts : List Float) → middle rule ts ≡ at_each product ts
 unfolding middle
-ft8-multiplies rule e ts = rw e
+ft8_multiplies rule e ts = rw e
 
 -- the two rules of min-sum
-pub min-sum-rule : (rule : DecodeRule) → rule ≡ MinSum → (ms : List Float) → minSum (factorOf rule) ms ≡ checkStep rule ms
-unfolding factorOf checkStep
-min-sum-rule rule e ms = rw e
+pub min-sum_rule : (rule : DecodeRule) → rule ≡ MinSum → (ms : List Float) → min_sum (factor_of rule) ms ≡ check_step rule ms
+unfolding factor_of check_step
+min-sum_rule rule e ms = rw e
 
-pub scaled-rule : (rule : DecodeRule) (scale : Float) → rule ≡ ScaledMinSum scale → (ms : List Float) → minSum (factorOf rule) ms ≡ checkStep rule ms
-unfolding factorOf checkStep
-scaled-rule rule scale e ms = rw e
+pub scaled_rule : (rule : DecodeRule) (scale : Float) → rule ≡ ScaledMinSum scale → (ms : List Float) → min_sum (factor_of rule) ms ≡ check_step rule ms
+unfolding factor_of check_step
+scaled_rule rule scale e ms = rw e
 
 -- what was answered by a function that is the rule's step, after the pads were set
-pub padded-step : (rule : DecodeRule) (f : List Float → List Float) (m d : ℕ) (pads : List ℕ) (pad : Float) (w w1 v : List Float)
-    → ((ms : List Float) → f ms ≡ checkStep rule ms) → pad ≡ padOf rule → w1 ≡ scattered pad pads w → AtColumns f m d w1 v
-    → AtColumns (checkStep rule) m d (scattered (padOf rule) pads w) v
-padded-step rule f m d pads pad w w1 v same e1 e2 a =
-    let padded : w1 ≡ scattered (padOf rule) pads w = e2 ∙ ap (λ (x : Float). scattered x pads w) e1 in
+pub padded_step : (rule : DecodeRule) (f : List Float → List Float) (m d : ℕ) (pads : List ℕ) (pad : Float) (w w1 v : List Float)
+    → ((ms : List Float) → f ms ≡ check_step rule ms) → pad ≡ pad_of rule → w1 ≡ scattered pad pads w → AtColumns f m d w1 v
+    → AtColumns (check_step rule) m d (scattered (pad_of rule) pads w) v
+padded_step rule f m d pads pad w w1 v same e1 e2 a =
+    let padded : w1 ≡ scattered (pad_of rule) pads w = e2 ∙ ap (λ (x : Float). scattered x pads w) e1 in
     record {
       size = a.size ∙ ap length padded;
-      columns = λ c l. a.columns c l ∙ same _ ∙ ap (λ (x : List Float). checkStep rule (column m d c x)) padded;
+      columns = λ c l. a.columns c l ∙ same _ ∙ ap (λ (x : List Float). check_step rule (column m d c x)) padded;
     }
 
-pub padded-long : (pads : List ℕ) (pad : Float) (w w1 : List Float) → w1 ≡ scattered pad pads w → length w1 ≡ length w
-padded-long pads pad w w1 e = ap length e ∙ scattered-length pad pads w
+pub padded_long : (pads : List ℕ) (pad : Float) (w w1 : List Float) → w1 ≡ scattered pad pads w → length w1 ≡ length w
+padded_long pads pad w w1 e = ap length e ∙ scattered-length pad pads w

@@ -6,8 +6,8 @@ use Rattle.softmath.specs.declared.DecodeRule.TheVariants.{SumProduct, MinSum, S
 pub use Rattle.slots.specs.Columns.{AtColumns}
 
 -- the message in the place of a last entry that a check lacks: +infinity, or -infinity where the rule takes minus the message
-unfoldable pub padOf : DecodeRule → Float
-padOf SumProduct = inf false
-padOf MinSum = inf false
-padOf (ScaledMinSum scale) = inf false
-padOf Ft8 = inf true
+unfoldable pub pad_of : DecodeRule → Float
+pad_of SumProduct = inf false
+pad_of MinSum = inf false
+pad_of (ScaledMinSum scale) = inf false
+pad_of Ft8 = inf true

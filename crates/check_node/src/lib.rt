@@ -3,9 +3,9 @@
 ghost use Rattle.std.specs.Prelude.{◌≡◌, List, ◌*◌, Float, length};
 ghost use Rattle.lists.specs.Below.{Below};
 ghost use Rattle.softmath.specs.Single.{product};
-ghost use Rattle.softmath.specs.CheckNode.{atEach, middle, checkStep, minSum, factorOf};
+ghost use Rattle.softmath.specs.CheckNode.{at_each, middle, check_step, min_sum, factor_of};
 ghost use Rattle.slots.specs.Layout.{scattered};
-ghost use Rattle.check_node.specs.CheckStep.{AtColumns, padOf};
+ghost use Rattle.check_node.specs.CheckStep.{AtColumns, pad_of};
 
 use softmath::DecodeRule;
 
@@ -27,7 +27,7 @@ fn scatter(value: f32, places: &[u16], work: &mut [f32])
 
 // The message in the place of an entry that a check lacks.
 fn pad_of(rule: DecodeRule) -> f32
-    ensures { result ≡ padOf rule }
+    ensures { result ≡ pad_of rule }
 {
     match rule {
         DecodeRule::SumProduct => 1.0 / 0.0,
@@ -39,9 +39,9 @@ fn pad_of(rule: DecodeRule) -> f32
 
 // The check step of a rule that multiplies: each message by itself, each check's together, each answer by itself.
 fn product_step(rule: DecodeRule, m: usize, d: usize, work: &mut [f32])
-    requires ts_value { (ts : List Float) → middle rule ts ≡ atEach product ts }
+    requires ts_value { (ts : List Float) → middle rule ts ≡ at_each product ts }
     requires work_len { length work.old ≡ d * m }
-    ensures { AtColumns (checkStep rule) m d work.old work.new }
+    ensures { AtColumns (check_step rule) m d work.old work.new }
 {
     each_message::before_checks(rule, work);
     slot_products::products_slots(m, d, work);
@@ -51,7 +51,7 @@ fn product_step(rule: DecodeRule, m: usize, d: usize, work: &mut [f32])
 // Min-sum by the engine that the constant selects. The second takes checks of up to 16 entries, and the codes have none above 11.
 fn min_sum_step(rule: DecodeRule, m: usize, d: usize, work: &mut [f32])
     requires { length work.old ≡ d * m }
-    ensures { AtColumns (minSum (factorOf rule)) m d work.old work.new }
+    ensures { AtColumns (min_sum (factor_of rule)) m d work.old work.new }
 {
     if BY_OTHERS {
         if d <= 16 {
@@ -67,7 +67,7 @@ fn min_sum_step(rule: DecodeRule, m: usize, d: usize, work: &mut [f32])
 pub fn check_step(rule: DecodeRule, m: usize, d: usize, pads: &[u16], work: &mut [f32])
     requires work_len { length work.old ≡ d * m }
     requires below { Below (length work.old) pads.now }
-    ensures { AtColumns (checkStep rule) m d (scattered (padOf rule) pads.now work.old) work.new }
+    ensures { AtColumns (check_step rule) m d (scattered (pad_of rule) pads.now work.old) work.new }
 {
     let pad = pad_of(rule);
     scatter(pad, pads, work);

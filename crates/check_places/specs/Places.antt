@@ -2,6 +2,6 @@
 use Rattle.std.specs.Prelude.{ℕ}
 use Rattle.tanner.specs.Checks.{First, check, none}
 
-abbrev pub placeOf : First → ℕ
-placeOf (check c) = c
-placeOf none = 65535
+abbrev pub place_of : First → ℕ
+place_of (check c) = c
+place_of none = 65535

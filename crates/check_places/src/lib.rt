@@ -1,7 +1,7 @@
 // The first unsatisfied check of a word as one number, as a batch and the C interface hand it out.
 ghost use Rattle.std.specs.Prelude.{◌≡◌};
 ghost use Rattle.tanner.specs.Found.{first_of};
-ghost use Rattle.check_places.specs.Places.{placeOf};
+ghost use Rattle.check_places.specs.Places.{place_of};
 
 use tanner::FirstCheck;
 
@@ -10,7 +10,7 @@ pub const NO_CHECK: u16 = 65535;
 
 // A first unsatisfied check as one number.
 pub fn place_of(first: FirstCheck) -> u16
-    ensures { result ≡ placeOf (first_of first) }
+    ensures { result ≡ place_of (first_of first) }
 {
     match first {
         FirstCheck::Check(c) => c,

@@ -10,12 +10,12 @@ use lib.ListN.{length, get_or, take}
 use lib.Pow.{pow_pos, pow-add, mod-pow-add, shl_lt}
 use lib.Seq.{take-suc}
 use Rattle.bits.specs.Bits.{bits}
-use Rattle.checksum.specs.Qex.{bringDown, divide, qex}
+use Rattle.checksum.specs.Qex.{bring_down, divide, qex}
 use Rattle.checksum.specs.Register.{fed, register, crc14, unused}
 use Rattle.checksum.proofs.Xor.{xor_assoc}
-use Rattle.checksum.proofs.Turn.{lowTurn, lowTurn-low, lowTurn-xor, lowTurn-double}
-use Rattle.bits.proofs.AreBits.{areBits-take}
-use Rattle.checksum.proofs.Division.{qex-more}
+use Rattle.checksum.proofs.Turn.{low_turn, low_turn_low, low_turn_xor, low_turn_double}
+use Rattle.bits.proofs.AreBits.{are_bits_take}
+use Rattle.checksum.proofs.Division.{qex_more}
 use Rattle.checksum.proofs.Fed.{fed-start, fed-inside, unused-start, unused-inside}
 use Rattle.bits.proofs.Digits.{Bytes, bits_are, bits-length, bits_at}
 
@@ -37,41 +37,41 @@ module _ (x j k : ℕ) (e : j + k ≡ 7) where
       ∙ sym (xor_shifted (x / 2 ^ k % 2) 13 (x % 2 ^ k * 2 ^ (6 + j)) rest_lt)
 
   -- a turn takes that one in and moves the rest up
-  turned : (q : ℕ) → lowTurn (bit_xor q (x % 2 ^ (1 + k) * 2 ^ (6 + j))) ≡ bit_xor (lowTurn (bit_xor q (x / 2 ^ k % 2 * 2 ^ 13))) (x % 2 ^ k * 2 ^ (6 + j) * 2)
+  turned : (q : ℕ) → low_turn (bit_xor q (x % 2 ^ (1 + k) * 2 ^ (6 + j))) ≡ bit_xor (low_turn (bit_xor q (x / 2 ^ k % 2 * 2 ^ 13))) (x % 2 ^ k * 2 ^ (6 + j) * 2)
   turned q =
-      ap (λ (n : ℕ). lowTurn (bit_xor q n)) top-and-rest
-      ∙ ap lowTurn (sym (xor_assoc q (x / 2 ^ k % 2 * 2 ^ 13) (x % 2 ^ k * 2 ^ (6 + j))))
-      ∙ lowTurn-xor (bit_xor q (x / 2 ^ k % 2 * 2 ^ 13)) (x % 2 ^ k * 2 ^ (6 + j))
-      ∙ ap (bit_xor (lowTurn (bit_xor q (x / 2 ^ k % 2 * 2 ^ 13)))) (lowTurn-double (x % 2 ^ k * 2 ^ (6 + j)) rest_lt)
+      ap (λ (n : ℕ). low_turn (bit_xor q n)) top-and-rest
+      ∙ ap low_turn (sym (xor_assoc q (x / 2 ^ k % 2 * 2 ^ 13) (x % 2 ^ k * 2 ^ (6 + j))))
+      ∙ low_turn_xor (bit_xor q (x / 2 ^ k % 2 * 2 ^ 13)) (x % 2 ^ k * 2 ^ (6 + j))
+      ∙ ap (bit_xor (low_turn (bit_xor q (x / 2 ^ k % 2 * 2 ^ 13)))) (low_turn_double (x % 2 ^ k * 2 ^ (6 + j)) rest_lt)
 
 -- the bytes' byte n / 8, and the bits so far
-abbrev byteAt : List ℕ → ℕ → ℕ
-byteAt m n = get_or m (n / 8) 0
+abbrev byte_at : List ℕ → ℕ → ℕ
+byte_at m n = get_or m (n / 8) 0
 
 abbrev so_far : List ℕ → ℕ → ℕ
 so_far m n = qex (take n (bits m))
 
 module _ (m : List ℕ) (n : ℕ) where
   -- what is left of the byte after bit n, in its place
-  left_over : Dec (n % 8 < 7) → byteAt m n % 2 ^ (7 - n % 8) * 2 ^ (6 + n % 8) * 2 ≡ unused m (suc n) * 2 ^ (6 + suc n % 8)
+  left_over : Dec (n % 8 < 7) → byte_at m n % 2 ^ (7 - n % 8) * 2 ^ (6 + n % 8) * 2 ≡ unused m (suc n) * 2 ^ (6 + suc n % 8)
   left_over (yes k) =
       let inside : suc n % 8 ≡ 0 → ⊥ = λ e. omega arith in
       let same : n / 8 ≡ suc n / 8 = omega arith in
       let fewer : 7 - n % 8 ≡ 8 - suc n % 8 = omega arith in
       let up : suc (6 + n % 8) ≡ 6 + suc n % 8 = omega arith in
-      mul_assoc (byteAt m n % 2 ^ (7 - n % 8)) (2 ^ (6 + n % 8)) 2
+      mul_assoc (byte_at m n % 2 ^ (7 - n % 8)) (2 ^ (6 + n % 8)) 2
       ∙ ap₂ (λ (x y : ℕ). x * y) (ap₂ (λ (x y : ℕ). get_or m x 0 % 2 ^ y) same fewer ∙ sym (unused-inside m (suc n) inside))
       (sym (pow-suc 2 (6 + n % 8)) ∙ ap (λ (x : ℕ). 2 ^ x) up)
   left_over (no k) =
       let none : 7 - n % 8 ≡ 0 = omega arith in
       let start : suc n % 8 ≡ 0 = omega arith in
-      ap (λ (x : ℕ). x * 2 ^ (6 + n % 8) * 2) (ap (λ (x : ℕ). byteAt m n % 2 ^ x) none ∙ mod-one (byteAt m n))
+      ap (λ (x : ℕ). x * 2 ^ (6 + n % 8) * 2) (ap (λ (x : ℕ). byte_at m n % 2 ^ x) none ∙ mod-one (byte_at m n))
       ∙ ap (λ (x : ℕ). x * 2) (zero-mul (2 ^ (6 + n % 8)))
       ∙ sym (ap (λ (x : ℕ). x * 2 ^ (6 + suc n % 8)) (unused-start m (suc n) start) ∙ zero-mul (2 ^ (6 + suc n % 8)))
 
   module _ (bytes : Bytes m) (law : crc14 m n ≡ bit_xor (so_far m n) (unused m n * 2 ^ (6 + n % 8))) where
     -- what is held before the turn of bit n
-    held : Dec (0 < n % 8) → fed m n (register m n) % 2 ^ 14 ≡ bit_xor (so_far m n) (byteAt m n % 2 ^ (8 - n % 8) * 2 ^ (6 + n % 8))
+    held : Dec (0 < n % 8) → fed m n (register m n) % 2 ^ 14 ≡ bit_xor (so_far m n) (byte_at m n % 2 ^ (8 - n % 8) * 2 ^ (6 + n % 8))
     unfolding crc14
     held (yes k) =
         let inside : n % 8 ≡ 0 → ⊥ = λ e. omega arith in
@@ -80,7 +80,7 @@ module _ (m : List ℕ) (n : ℕ) where
         ∙ ap (λ (x : ℕ). bit_xor (so_far m n) (x * 2 ^ (6 + n % 8))) (unused-inside m n inside)
     held (no k) =
         let start : n % 8 ≡ 0 = omega arith in
-        let x = byteAt m n in
+        let x = byte_at m n in
         let whole : x * 2 ^ 6 ≡ x % 2 ^ 8 * 2 ^ 6 = omega (arith, bytes (n / 8)) in
         ap (λ (y : ℕ). y % 2 ^ 14) (fed-start m n (register m n) start)
         ∙ xor_mod (register m n) (x * 2 ^ 6) 14
@@ -96,25 +96,25 @@ module _ (m : List ℕ) (n : ℕ) where
     next : n < 8 * length m → crc14 m (suc n) ≡ bit_xor (so_far m (suc n)) (unused m (suc n) * 2 ^ (6 + suc n % 8))
     unfolding crc14 register
     next h =
-        let x = byteAt m n in
+        let x = byte_at m n in
         let j = n % 8 in
         let k = 7 - n % 8 in
         let more : 8 - n % 8 ≡ 1 + (7 - n % 8) = omega arith in
-        let inList : n < length (bits m) = rw (bits-length m) h in
+        let in_list : n < length (bits m) = rw (bits-length m) h in
         let here = bits_at m n h in
-        lowTurn-low (fed m n (register m n))
-        ∙ ap lowTurn (held (dec_lt 0 (n % 8)) ∙ ap (λ (y : ℕ). bit_xor (so_far m n) (x % 2 ^ y * 2 ^ (6 + j))) more)
+        low_turn_low (fed m n (register m n))
+        ∙ ap low_turn (held (dec_lt 0 (n % 8)) ∙ ap (λ (y : ℕ). bit_xor (so_far m n) (x % 2 ^ y * 2 ^ (6 + j))) more)
         ∙ turned x j k (omega arith) (so_far m n)
         ∙ ap₂ bit_xor
-        (sym (qex-more (x / 2 ^ k % 2) (areBits-take n (bits_are m)) (mod-lt (x / 2 ^ k) (pow_pos 1)))
+        (sym (qex_more (x / 2 ^ k % 2) (are_bits_take n (bits_are m)) (mod-lt (x / 2 ^ k) (pow_pos 1)))
         ∙ ap (λ (y : ℕ). qex (take n (bits m) ++ y ∷ [])) (sym here)
-        ∙ ap qex (sym (take-suc (bits m) n 0 inList)))
+        ∙ ap qex (sym (take-suc (bits m) n 0 in_list)))
         (left_over (dec_lt (n % 8) 7))
 
 -- The register's checksum is QEX's with the unused bits of the last byte XORed in, moved up by 6 places and by one more for each
 -- bit of that byte that was used.
 pub agreement : (m : List ℕ) (n : ℕ) → Bytes m → n ≤ 8 * length m → crc14 m n ≡ bit_xor (qex (take n (bits m))) (unused m n * 2 ^ (6 + n % 8))
-unfolding crc14 register unused qex divide bringDown
+unfolding crc14 register unused qex divide bring_down
 agreement m zero bytes h = refl
 agreement m (suc n) bytes h = next m n bytes (agreement m n bytes (omega arith)) (omega arith)
 

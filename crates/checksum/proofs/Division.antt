@@ -8,15 +8,15 @@ use native.Mathlib.Omega.{arith}
 use lib.Bits.{bit_xor, xor_lt, xor_mod, xor_block, xor_self, xor_shifted, xor_zero_r}
 use lib.ListN.{replicate}
 use lib.Pow.{mod-mod-pow}
-use Rattle.bits.proofs.AreBits.{AreBits, none, more, areBits-append}
-use Rattle.checksum.specs.Qex.{bringDown, divide, qex}
+use Rattle.bits.proofs.AreBits.{AreBits, none, more, are_bits_append}
+use Rattle.checksum.specs.Qex.{bring_down, divide, qex}
 use Rattle.checksum.specs.Register.{turn}
 use Rattle.checksum.proofs.Xor.{xor-right}
-use Rattle.checksum.proofs.Turn.{lowTurn, lowTurn-lt, lowTurn-xor, lowTurns, lowTurns-xor, lowTurns-first, lowTurns-bit}
+use Rattle.checksum.proofs.Turn.{low_turn, low_turn_lt, low_turn_xor, low_turns, low_turns_xor, low_turns_first, low_turns_bit}
 
 -- the remainder's parts: bit 13, and those below it
-low_parts : (r : ℕ) → r < 2 ^ 14 → lowTurn r ≡ bit_xor (r % 2 ^ 13 * 2) (r / 2 ^ 13 * 0x2757)
-unfolding lowTurn turn
+low_parts : (r : ℕ) → r < 2 ^ 14 → low_turn r ≡ bit_xor (r % 2 ^ 13 * 2) (r / 2 ^ 13 * 0x2757)
+unfolding low_turn turn
 low_parts r h =
     let mid : r * 2 % 2 ^ 14 ≡ r % 2 ^ 13 * 2 = omega arith in
     let up = mod-mod-pow (r * 2) 2 14 ∙ mid in
@@ -24,9 +24,9 @@ low_parts r h =
     let top = ap (λ (n : ℕ). n * 0x2757 % 2 ^ 14) (mod-eq_of_lt bit) ∙ mod-eq_of_lt (omega arith) in
     xor_mod (r * 2 % 2 ^ 16) (r / 2 ^ 13 % 2 * 0x2757) 14 ∙ ap₂ bit_xor up top
 
-down-parts : (r b : ℕ) → r < 2 ^ 14 → b < 2 → bringDown r b ≡ bit_xor (r % 2 ^ 13 * 2 + b) (r / 2 ^ 13 * 0x2757)
-unfolding bringDown
-down-parts r b h k =
+down_parts : (r b : ℕ) → r < 2 ^ 14 → b < 2 → bring_down r b ≡ bit_xor (r % 2 ^ 13 * 2 + b) (r / 2 ^ 13 * 0x2757)
+unfolding bring_down
+down_parts r b h k =
     let h' = r / 2 ^ 13 in
     let low = r % 2 ^ 13 * 2 + b in
     let whole : r * 2 + b ≡ h' * 2 ^ 14 + low = omega arith in
@@ -36,50 +36,50 @@ down-parts r b h k =
     ∙ ap (λ (n : ℕ). n * 2 ^ 14 + bit_xor low (h' * 0x2757)) (xor_self h')
     ∙ omega arith
 
-bringDown-turn : (r b : ℕ) → r < 2 ^ 14 → b < 2 → bringDown r b ≡ bit_xor (lowTurn r) b
-bringDown-turn r b h k =
-    down-parts r b h k
+bring_down-turn : (r b : ℕ) → r < 2 ^ 14 → b < 2 → bring_down r b ≡ bit_xor (low_turn r) b
+bring_down-turn r b h k =
+    down_parts r b h k
     ∙ ap (λ (n : ℕ). bit_xor n (r / 2 ^ 13 * 0x2757)) (sym (xor_shifted (r % 2 ^ 13) 1 b k))
     ∙ xor-right (r % 2 ^ 13 * 2) b (r / 2 ^ 13 * 0x2757)
     ∙ ap (λ (n : ℕ). bit_xor n b) (sym (low_parts r h))
 
-bringDown-lt : (r b : ℕ) → r < 2 ^ 14 → b < 2 → bringDown r b < 2 ^ 14
-bringDown-lt r b h k = rw (bringDown-turn r b h k) (xor_lt 14 (lowTurn r) b (lowTurn-lt r) (omega arith))
+bring_down-lt : (r b : ℕ) → r < 2 ^ 14 → b < 2 → bring_down r b < 2 ^ 14
+bring_down-lt r b h k = rw (bring_down-turn r b h k) (xor_lt 14 (low_turn r) b (low_turn_lt r) (omega arith))
 
 divide-lt : {bs : List ℕ} (r : ℕ) → r < 2 ^ 14 → AreBits bs → divide r bs < 2 ^ 14
 unfolding divide
 divide-lt r h none = h
-divide-lt r h (more {b = b} k ks) = divide-lt (bringDown r b) (bringDown-lt r b h k) ks
+divide-lt r h (more {b = b} k ks) = divide-lt (bring_down r b) (bring_down-lt r b h k) ks
 
-divide-append : (r : ℕ) (xs ys : List ℕ) → divide r (xs ++ ys) ≡ divide (divide r xs) ys
+divide_append : (r : ℕ) (xs ys : List ℕ) → divide r (xs ++ ys) ≡ divide (divide r xs) ys
 unfolding divide
-divide-append r [] ys = refl
-divide-append r (b ∷ xs) ys = divide-append (bringDown r b) xs ys
+divide_append r [] ys = refl
+divide_append r (b ∷ xs) ys = divide_append (bring_down r b) xs ys
 
-divide-zeros : (n r : ℕ) → r < 2 ^ 14 → divide r (replicate n 0) ≡ lowTurns n r
-unfolding divide lowTurns
-divide-zeros zero r h = refl
-divide-zeros (suc n) r h =
-    ap (λ (q : ℕ). divide q (replicate n 0)) (bringDown-turn r 0 h (omega arith) ∙ xor_zero_r (lowTurn r))
-    ∙ divide-zeros n (lowTurn r) (lowTurn-lt r)
-    ∙ lowTurns-first n r
+divide_zeros : (n r : ℕ) → r < 2 ^ 14 → divide r (replicate n 0) ≡ low_turns n r
+unfolding divide low_turns
+divide_zeros zero r h = refl
+divide_zeros (suc n) r h =
+    ap (λ (q : ℕ). divide q (replicate n 0)) (bring_down-turn r 0 h (omega arith) ∙ xor_zero_r (low_turn r))
+    ∙ divide_zeros n (low_turn r) (low_turn_lt r)
+    ∙ low_turns_first n r
 
-qex-turns : {bs : List ℕ} → AreBits bs → qex bs ≡ lowTurns 14 (divide 0 bs)
+qex-turns : {bs : List ℕ} → AreBits bs → qex bs ≡ low_turns 14 (divide 0 bs)
 unfolding qex
-qex-turns {bs} h = divide-append 0 bs (replicate 14 0) ∙ divide-zeros 14 (divide 0 bs) (divide-lt 0 (omega arith) h)
+qex-turns {bs} h = divide_append 0 bs (replicate 14 0) ∙ divide_zeros 14 (divide 0 bs) (divide-lt 0 (omega arith) h)
 
 pub qex-lt : {bs : List ℕ} → AreBits bs → qex bs < 2 ^ 14
-unfolding lowTurns
-qex-lt {bs} h = rw (qex-turns h) (lowTurn-lt (lowTurns 13 (divide 0 bs)))
+unfolding low_turns
+qex-lt {bs} h = rw (qex-turns h) (low_turn_lt (low_turns 13 (divide 0 bs)))
 
 -- one bit more
-pub qex-more : {bs : List ℕ} (b : ℕ) → AreBits bs → b < 2 → qex (bs ++ b ∷ []) ≡ lowTurn (bit_xor (qex bs) (b * 2 ^ 13))
-unfolding lowTurns divide
-qex-more {bs} b h k =
+pub qex_more : {bs : List ℕ} (b : ℕ) → AreBits bs → b < 2 → qex (bs ++ b ∷ []) ≡ low_turn (bit_xor (qex bs) (b * 2 ^ 13))
+unfolding low_turns divide
+qex_more {bs} b h k =
     let d = divide 0 bs in
-    qex-turns (areBits-append h (more k none))
-    ∙ ap (lowTurns 14) (divide-append 0 bs (b ∷ []) ∙ bringDown-turn d b (divide-lt 0 (omega arith) h) k)
-    ∙ lowTurns-xor 14 (lowTurn d) b
-    ∙ ap₂ bit_xor (lowTurns-first 14 d) (ap lowTurn (lowTurns-bit b k))
-    ∙ sym (lowTurn-xor (lowTurns 14 d) (b * 2 ^ 13))
-    ∙ ap (λ (n : ℕ). lowTurn (bit_xor n (b * 2 ^ 13))) (sym (qex-turns h))
+    qex-turns (are_bits_append h (more k none))
+    ∙ ap (low_turns 14) (divide_append 0 bs (b ∷ []) ∙ bring_down-turn d b (divide-lt 0 (omega arith) h) k)
+    ∙ low_turns_xor 14 (low_turn d) b
+    ∙ ap₂ bit_xor (low_turns_first 14 d) (ap low_turn (low_turns_bit b k))
+    ∙ sym (low_turn_xor (low_turns 14 d) (b * 2 ^ 13))
+    ∙ ap (λ (n : ℕ). low_turn (bit_xor n (b * 2 ^ 13))) (sym (qex-turns h))

@@ -14,14 +14,14 @@ differ-lt (suc zero) (suc zero) h k = omega arith
 differ-lt (suc zero) (suc (suc y)) h k = absurd (omega arith)
 differ-lt (suc (suc x)) (suc y) h k = absurd (omega arith)
 
-differ-assoc : (x y z : ℕ) → x < 2 → y < 2 → z < 2 → differ (differ x y) z ≡ differ x (differ y z)
-differ-assoc zero y z h k l = refl
-differ-assoc (suc zero) zero z h k l = refl
-differ-assoc (suc zero) (suc zero) zero h k l = refl
-differ-assoc (suc zero) (suc zero) (suc zero) h k l = refl
-differ-assoc (suc zero) (suc zero) (suc (suc z)) h k l = absurd (omega arith)
-differ-assoc (suc zero) (suc (suc y)) z h k l = absurd (omega arith)
-differ-assoc (suc (suc x)) y z h k l = absurd (omega arith)
+differ_assoc : (x y z : ℕ) → x < 2 → y < 2 → z < 2 → differ (differ x y) z ≡ differ x (differ y z)
+differ_assoc zero y z h k l = refl
+differ_assoc (suc zero) zero z h k l = refl
+differ_assoc (suc zero) (suc zero) zero h k l = refl
+differ_assoc (suc zero) (suc zero) (suc zero) h k l = refl
+differ_assoc (suc zero) (suc zero) (suc (suc z)) h k l = absurd (omega arith)
+differ_assoc (suc zero) (suc (suc y)) z h k l = absurd (omega arith)
+differ_assoc (suc (suc x)) y z h k l = absurd (omega arith)
 
 odd-lt : (n : ℕ) → n % 2 < 2
 odd-lt n = mod-lt n (pow_pos 1)
@@ -35,7 +35,7 @@ xor_assoc =
     (λ n ih b c.
     xor_step (bit_xor n b) c
     ∙ ap₂ (λ (x y : ℕ). bit_xor x (c / 2) * 2 + differ y (c % 2)) (xor_shr n b 1) (xor-odd n b)
-    ∙ ap₂ (λ (x y : ℕ). x * 2 + y) (ih (b / 2) (c / 2)) (differ-assoc (n % 2) (b % 2) (c % 2) (odd-lt n) (odd-lt b) (odd-lt c))
+    ∙ ap₂ (λ (x y : ℕ). x * 2 + y) (ih (b / 2) (c / 2)) (differ_assoc (n % 2) (b % 2) (c % 2) (odd-lt n) (odd-lt b) (odd-lt c))
     ∙ sym (ap₂ (λ (x y : ℕ). bit_xor (n / 2) x * 2 + differ (n % 2) y) (xor_shr b c 1) (xor-odd b c))
     ∙ sym (xor_step n (bit_xor b c)))
 
@@ -48,8 +48,8 @@ pub xor-middle : (a b c d : ℕ) → bit_xor (bit_xor a b) (bit_xor c d) ≡ bit
 xor-middle a b c d =
     sym (xor_assoc (bit_xor a b) c d) ∙ ap (λ (n : ℕ). bit_xor n d) (xor-right a b c) ∙ xor_assoc (bit_xor a c) b d
 
-pub xor-shl : (a b k : ℕ) → bit_xor a b * 2 ^ k ≡ bit_xor (a * 2 ^ k) (b * 2 ^ k)
-xor-shl a b k =
+pub xor_shl : (a b k : ℕ) → bit_xor a b * 2 ^ k ≡ bit_xor (a * 2 ^ k) (b * 2 ^ k)
+xor_shl a b k =
     sym (add-zero (bit_xor a b * 2 ^ k)) ∙ sym (xor_block k a b 0 0 (pow_pos k) (pow_pos k))
     ∙ ap₂ bit_xor (add-zero (a * 2 ^ k)) (add-zero (b * 2 ^ k))
 

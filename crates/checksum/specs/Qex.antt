@@ -6,13 +6,13 @@ use Rattle.std.specs.Int.Bits.{bit_xor}
 
 -- one step of long division: the next bit is brought down behind the remainder r, and the polynomial is taken off as often
 -- as the coefficient at degree 14 says, 0 or 1 times
-unfoldable pub bringDown : ℕ → ℕ → ℕ
-bringDown r b = bit_xor (r * 2 + b) ((r * 2 + b) / 2 ^ 14 * 0x6757)
+unfoldable pub bring_down : ℕ → ℕ → ℕ
+bring_down r b = bit_xor (r * 2 + b) ((r * 2 + b) / 2 ^ 14 * 0x6757)
 
 -- the remainder after all bits, from the remainder r of what stands before them
 unfoldable pub divide : ℕ → List ℕ → ℕ
 divide r [] = r
-divide r (b ∷ bs) = divide (bringDown r b) bs
+divide r (b ∷ bs) = divide (bring_down r b) bs
 
 unfoldable pub qex : List ℕ → ℕ
 qex bs = divide 0 (bs ++ replicate 14 0)

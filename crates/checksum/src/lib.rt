@@ -1,8 +1,8 @@
 // The FT8 checksum (CRC-14) of the first bits of a message, in a register that is turned once for each bit.
 ghost use Rattle.std.specs.Prelude.{◌≡◌, ◌*◌, ◌/◌, ◌^◌, ◌≤◌, length};
-ghost use Rattle.bits.specs.Bits.{bytesFor};
+ghost use Rattle.bits.specs.Bits.{bytes_for};
 ghost use Rattle.checksum.specs.Register.{turn, register, crc14};
-ghost use Rattle.checksum.specs.Upper.{upper, turnUp, turnsUp, takenIn};
+ghost use Rattle.checksum.specs.Upper.{upper, turn_up, turns_up, taken_in};
 
 const POLY: u16 = 0x2757;
 
@@ -22,7 +22,7 @@ const POLY_UP: u32 = 0x9D5C_0000;
 
 // One turn.
 fn step_up(r: u32) -> u32
-    ensures { result ≡ turnUp r }
+    ensures { result ≡ turn_up r }
 {
     let top = r >> 31;
     (r << 1) ^ (top * POLY_UP)
@@ -33,7 +33,7 @@ const POLY_TWICE: u32 = 0xA7E4_0000;
 
 // Two turns at once: what is XORed in goes by the two top bits.
 fn step_two(r: u32) -> u32
-    ensures { result ≡ turnUp (turnUp r) }
+    ensures { result ≡ turn_up (turn_up r) }
 {
     let top = r >> 31;
     let next = (r >> 30) % 2;
@@ -42,14 +42,14 @@ fn step_two(r: u32) -> u32
 
 // A whole byte taken in.
 fn take_in(r: u32, byte: u8) -> u32
-    ensures { result ≡ takenIn r byte }
+    ensures { result ≡ taken_in r byte }
 {
     r ^ ((byte as u32) << 24)
 }
 
 // The turns of a byte's eight bits.
 fn turn_byte(r: u32) -> u32
-    ensures { result ≡ turnsUp 8 r }
+    ensures { result ≡ turns_up 8 r }
 {
     step_two(step_two(step_two(step_two(r))))
 }
@@ -71,7 +71,7 @@ fn whole_bytes(message: &[u8], n: usize) -> u32
 
 // The register after the first n bits of one more byte.
 fn last_bits(byte: u8, n: usize, r: u32) -> u32
-    ensures { result ≡ turnsUp n (takenIn r byte) }
+    ensures { result ≡ turns_up n (taken_in r byte) }
 {
     let mut q = take_in(r, byte);
     let mut j = 0;
@@ -91,7 +91,7 @@ fn lowered(r: u32) -> u16
 
 // The checksum of the first num_bits bits.
 pub fn checksum_of(message: &[u8], num_bits: usize) -> u16
-    requires { bytesFor num_bits ≤ length message.now }
+    requires { bytes_for num_bits ≤ length message.now }
     ensures { result ≡ crc14 message.now num_bits }
 {
     let n = num_bits / 8;

@@ -15,16 +15,16 @@ use lib.Ieee.Compare.{differs_from_itself, nan_differs}
 use lib.ListN.{length, get_or, take, drop, replicate, length-append, get_or-replicate, get_or-append, get_or-eq_default}
 use lib.Pow.{pow_mono, pow-add}
 use lib.Seq.{take-suc, take_all, drop-length, drop-cons, get_or-append-add}
-use Rattle.bits.specs.Bits.{number, numberAfter}
+use Rattle.bits.specs.Bits.{number, number_after}
 use Rattle.checksum.specs.Register.{turn}
-use Rattle.checksum.specs.Qex.{bringDown, divide, qex}
+use Rattle.checksum.specs.Qex.{bring_down, divide, qex}
 use Rattle.bits.proofs.Digits.{number_append}
-use Rattle.checksum.proofs.Turn.{lowTurn}
-use Rattle.bits.proofs.AreBits.{AreBits, none, more, areBits-append, areBits-take, zeros-are}
-use Rattle.checksum.proofs.Division.{qex-lt, qex-more}
+use Rattle.checksum.proofs.Turn.{low_turn}
+use Rattle.bits.proofs.AreBits.{AreBits, none, more, are_bits_append, are_bits_take, zeros_are}
+use Rattle.checksum.proofs.Division.{qex-lt, qex_more}
 use Rattle.tanner.specs.Checks.{low_bits}
 use Rattle.tanner.proofs.Count.{low-length}
-use Rattle.clean.specs.Clean.{anyNan}
+use Rattle.clean.specs.Clean.{any_nan}
 
 -- ---- values
 nan-alone : (x : Float) → x ≡ nan → is_nan x ≡ true
@@ -41,20 +41,20 @@ same (inf s) d = refl
 same (fin s m e) d = refl
 
 module _ (vs : List Float) (i : ℕ) (h : i < length vs) where
-  pub nan-here : Ieee.ne (get_or vs i nan) (get_or vs i nan) ≡ true → anyNan (drop i vs) ≡ true
-  unfolding anyNan
+  pub nan-here : Ieee.ne (get_or vs i nan) (get_or vs i nan) ≡ true → any_nan (drop i vs) ≡ true
+  unfolding any_nan
   nan-here d = rw (drop-cons vs i nan h, differs (get_or vs i nan) d)
 
-  pub nan-later : Ieee.ne (get_or vs i nan) (get_or vs i nan) ≡ false → anyNan (drop i vs) ≡ anyNan (drop (i + 1) vs)
-  unfolding anyNan
+  pub nan-later : Ieee.ne (get_or vs i nan) (get_or vs i nan) ≡ false → any_nan (drop i vs) ≡ any_nan (drop (i + 1) vs)
+  unfolding any_nan
   nan-later d = rw (add-one i, drop-cons vs i nan h, same (get_or vs i nan) d)
 
-pub none_left : (vs : List Float) (i : ℕ) → length vs ≤ i → i ≤ length vs → anyNan (drop i vs) ≡ anyNan vs → false ≡ anyNan vs
-unfolding anyNan
+pub none_left : (vs : List Float) (i : ℕ) → length vs ≤ i → i ≤ length vs → any_nan (drop i vs) ≡ any_nan vs → false ≡ any_nan vs
+unfolding any_nan
 none_left vs i h k e =
     let all : i ≡ length vs = omega arith in
     let gone : drop i vs ≡ [] = rw all (drop-length vs) in
-    sym (ap anyNan gone) ∙ e
+    sym (ap any_nan gone) ∙ e
 
 -- ---- the low bits
 pub low-bits : (bs : List ℕ) → AreBits (low_bits bs)
@@ -68,7 +68,7 @@ module _ (bs : List ℕ) where
   padded = low_bits bs ++ replicate 5 0
 
   padded-bits : AreBits padded
-  padded-bits = areBits-append (low-bits bs) (zeros-are 5)
+  padded-bits = are_bits_append (low-bits bs) (zeros_are 5)
 
   pub padded-length : length padded ≡ length bs + 5
   padded-length = length-append (low_bits bs) (replicate 5 0) ∙ rw (low-length bs)
@@ -85,23 +85,23 @@ module _ (bs : List ℕ) where
           ∙ get_or-replicate {A = ℕ} 5 (i - length bs) 0 0 (omega arith) ∙ sym (get_or-eq_default (low_bits bs) 0 (omega arith))
 
   pub checksum-lt : (i : ℕ) → qex (take i padded) < 16384
-  checksum-lt i = qex-lt (areBits-take i padded-bits)
+  checksum-lt i = qex-lt (are_bits_take i padded-bits)
 
   pub checksum-start : 0 ≡ qex (take 0 padded)
-  unfolding qex divide bringDown
+  unfolding qex divide bring_down
   checksum-start = refl
 
   pub checksum-more : (i b : ℕ) → i < length bs + 5 → b ≡ get_or (low_bits bs) i 0 → b < 2
       → turn (bit_xor (qex (take i padded)) (b * 8192)) % 16384 ≡ qex (take (i + 1) padded)
-  unfolding lowTurn
+  unfolding low_turn
   checksum-more i b h e low =
       let one : take (i + 1) padded ≡ take i padded ++ (get_or padded i 0 ∷ []) = rw (add-one i) (take-suc padded i 0 (rw padded-length h)) in
       let bit : get_or padded i 0 ≡ b = padded-at i h ∙ sym e in
-      sym (ap qex (rw bit at one) ∙ qex-more b (areBits-take i padded-bits) low)
+      sym (ap qex (rw bit at one) ∙ qex_more b (are_bits_take i padded-bits) low)
 
   -- ---- a number, one digit more
   pub number_more : (i b : ℕ) → i < length bs → b ≡ get_or (low_bits bs) i 0 → number (take i (low_bits bs)) * 2 + b ≡ number (take (i + 1) (low_bits bs))
-  unfolding numberAfter
+  unfolding number_after
   number_more i b h e =
       sym (rw (add-one i) (ap number (take-suc (low_bits bs) i 0 (rw (low-length bs) h))) ∙ number_append 0 (take i (low_bits bs)) (get_or (low_bits bs) i 0 ∷ [])
       ∙ rw e)
@@ -109,8 +109,8 @@ module _ (bs : List ℕ) where
   pub all_digits : (i : ℕ) → length bs ≤ i → take i (low_bits bs) ≡ low_bits bs
   all_digits i h = take_all i (low_bits bs) (rw (low-length bs) h)
 
-pub below-pow : (n b i : ℕ) → n < 2 ^ i → b < 2 → n * 2 + b < 2 ^ (i + 1)
-below-pow n b i h k =
+pub below_pow : (n b i : ℕ) → n < 2 ^ i → b < 2 → n * 2 + b < 2 ^ (i + 1)
+below_pow n b i h k =
     let twice : 2 ^ (i + 1) ≡ 2 ^ i * 2 = pow-add 2 i 1 in
     omega arith
 

@@ -6,25 +6,25 @@ use Rattle.bits.specs.Bits.{number, packed}
 use Rattle.checksum.specs.Qex.{qex}
 use Rattle.tanner.specs.Checks.{low_bits}
 
-unfoldable pub anyNan : List Float → Bool
-anyNan [] = false
-anyNan (v ∷ vs) = is_nan v || anyNan vs
+unfoldable pub any_nan : List Float → Bool
+any_nan [] = false
+any_nan (v ∷ vs) = is_nan v || any_nan vs
 
 -- the checksum of a block's 77 payload bits, which is taken over 82 bits, five zeros after them
-abbrev pub payloadChecksum : List ℕ → ℕ
-payloadChecksum bits = qex (low_bits (take 77 bits) ++ replicate 5 0)
+abbrev pub payload_checksum : List ℕ → ℕ
+payload_checksum bits = qex (low_bits (take 77 bits) ++ replicate 5 0)
 
 -- the checksum that the bits carry, at bits 77 to 90
-abbrev pub carriedChecksum : List ℕ → ℕ
-carriedChecksum bits = number (low_bits (take 14 (drop 77 bits)))
+abbrev pub carried_checksum : List ℕ → ℕ
+carried_checksum bits = number (low_bits (take 14 (drop 77 bits)))
 
 -- the payload whose 77 bits the frame's are, in the 10 bytes that `ft8_add_crc` takes
-abbrev pub payloadOf : List ℕ → List ℕ
-payloadOf bits = packed 10 (low_bits (take 77 bits) ++ replicate 3 0)
+abbrev pub payload_of : List ℕ → List ℕ
+payload_of bits = packed 10 (low_bits (take 77 bits) ++ replicate 3 0)
 
-unfoldable pub checksumRight : List ℕ → Bool
-checksumRight bits = eqb (payloadChecksum bits) (carriedChecksum bits)
+unfoldable pub checksum_right : List ℕ → Bool
+checksum_right bits = eqb (payload_checksum bits) (carried_checksum bits)
 
 -- a frame of that code with these values, that was decoded to these bits with that count
-unfoldable pub frameClean : ℕ → List Float → ℕ → List ℕ → Bool
-frameClean code values count bits = eqb count 0 && (not (anyNan values) && (not (eqb code 3) || checksumRight bits))
+unfoldable pub frame_clean : ℕ → List Float → ℕ → List ℕ → Bool
+frame_clean code values count bits = eqb count 0 && (not (any_nan values) && (not (eqb code 3) || checksum_right bits))

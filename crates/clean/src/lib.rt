@@ -5,7 +5,7 @@ ghost use Rattle.bits.specs.Bits.{number};
 ghost use Rattle.checksum.specs.Register.{turn};
 ghost use Rattle.checksum.specs.Qex.{qex};
 ghost use Rattle.tanner.specs.Checks.{low_bits};
-ghost use Rattle.clean.specs.Clean.{anyNan, payloadChecksum, carriedChecksum, checksumRight, frameClean};
+ghost use Rattle.clean.specs.Clean.{any_nan, payload_checksum, carried_checksum, checksum_right, frame_clean};
 
 // The checksum that a block's bits carry, and the one computed of its payload.
 #[derive(Drop)]
@@ -16,7 +16,7 @@ pub struct Checksums {
 
 // Whether one of the values is a NaN, which alone differs from itself.
 fn any_nan(values: &[f32]) -> bool
-    ensures { result ≡ anyNan values.now }
+    ensures { result ≡ any_nan values.now }
 {
     let mut i = 0;
     while i < values.len() {
@@ -80,7 +80,7 @@ fn number_of(bytes: &[u8]) -> u16
 // Both checksums of the 91 bits.
 pub fn both_checksums(bits: &[u8]) -> Checksums
     requires { length bits.now ≡ 91 }
-    ensures { (result.carried ≡ carriedChecksum bits.now) × (result.computed ≡ payloadChecksum bits.now) }
+    ensures { (result.carried ≡ carried_checksum bits.now) × (result.computed ≡ payload_checksum bits.now) }
 {
     let computed = checksum_of(&bits[..77]);
     let carried = number_of(&bits[77..91]);
@@ -90,7 +90,7 @@ pub fn both_checksums(bits: &[u8]) -> Checksums
 // Whether the 91 bits carry their own checksum.
 fn checksum_right(bits: &[u8]) -> bool
     requires { length bits.now ≡ 91 }
-    ensures { result ≡ checksumRight bits.now }
+    ensures { result ≡ checksum_right bits.now }
 {
     let both = both_checksums(bits);
     both.computed == both.carried
@@ -99,7 +99,7 @@ fn checksum_right(bits: &[u8]) -> bool
 // Whether a frame of that code with these values is clean: what it decoded to has that count and these bits.
 pub fn is_clean(code: u32, values: &[f32], count: u16, bits: &[u8]) -> bool
     requires { code ≡ 3 → length bits.now ≡ 91 }
-    ensures { result ≡ frameClean code values.now count bits.now }
+    ensures { result ≡ frame_clean code values.now count bits.now }
 {
     if count != 0 {
         return false;

@@ -1,11 +1,11 @@
 // Whether the frames of a batch are clean, of what its call wrote.
 ghost use Rattle.std.specs.Prelude.{◌≡◌, ◌*◌, ◌<◌, ◌≤◌, length};
-ghost use Rattle.batch.specs.Codes.{sizeN, sizeK};
-ghost use Rattle.batch.specs.Pairs.{pairsOf, framesOf, AllWithin};
+ghost use Rattle.batch.specs.Codes.{size_n, size_k};
+ghost use Rattle.batch.specs.Pairs.{pairs_of, frames_of, AllWithin};
 ghost use Rattle.refusal.specs.Outcome.{judged};
 ghost use Rattle.refusal.specs.Answers.{answer_of};
-ghost use Rattle.clean_frames.specs.CleanFrames.{cleanOf};
-ghost use Rattle.clean_frames.specs.Calls.{frameRefusals, cleanNumber};
+ghost use Rattle.clean_frames.specs.CleanFrames.{clean_of};
+ghost use Rattle.clean_frames.specs.Calls.{frame_refusals, clean_number};
 
 use refusal::{Answer, Refusal};
 
@@ -18,11 +18,11 @@ pub fn clean_at(
     counts: &[u16],
     bits: &[u8],
 ) -> bool
-    requires all_within { AllWithin (sizeN code) (length values.now) (pairsOf pairs.now) }
-    requires pairs_len_bound { length (pairsOf pairs.now) ≤ 24 }
-    requires counts_len { (length counts.now ≡ length (pairsOf pairs.now)) × (length bits.now ≡ length (pairsOf pairs.now) * sizeK code) }
-    requires j_in_bounds { j < length (pairsOf pairs.now) }
-    ensures { result ≡ cleanOf code (framesOf values.now (pairsOf pairs.now)) counts.now bits.now j }
+    requires all_within { AllWithin (size_n code) (length values.now) (pairs_of pairs.now) }
+    requires pairs_len_bound { length (pairs_of pairs.now) ≤ 24 }
+    requires counts_len { (length counts.now ≡ length (pairs_of pairs.now)) × (length bits.now ≡ length (pairs_of pairs.now) * size_k code) }
+    requires j_in_bounds { j < length (pairs_of pairs.now) }
+    ensures { result ≡ clean_of code (frames_of values.now (pairs_of pairs.now)) counts.now bits.now j }
 {
     let from = pairs[j * 2] as usize;
     let to = from + batch_refusals::frame_values(code);
@@ -35,7 +35,7 @@ pub fn clean_at(
 // Whether one frame of the code is clean, with the count and the bits that a decode of its values gave: 1 where it is, and 0 where it is not.
 pub fn frame_clean(code: u32, values: &[f32], count: u16, bits: &[u8]) -> Answer
     ensures { answer_of result
-        ≡ judged (frameRefusals code values.now bits.now) (cleanNumber code values.now count bits.now) }
+        ≡ judged (frame_refusals code values.now bits.now) (clean_number code values.now count bits.now) }
 {
     if code > 3 {
         return Answer::Refused(Refusal::UnknownCode);

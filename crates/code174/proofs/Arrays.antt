@@ -4,8 +4,8 @@ use mathlib.Core.List.{List, [], ◌∷◌}
 use Prim.Native.Nat.{ℕ}
 
 -- Where each check's positions start in CHECK_BITS, and the end of the last.
-unfoldable pub checkStart : List ℕ
-checkStart =
+unfoldable pub check_start : List ℕ
+check_start =
     0 ∷ 7 ∷ 13 ∷ 19 ∷ 25 ∷ 32 ∷ 38 ∷ 45 ∷ 51 ∷ 57 ∷ 64 ∷ 70 ∷ 76 ∷ 83 ∷ 90 ∷ 96 ∷ 102 ∷ 108 ∷ 115 ∷ 121 ∷
     128 ∷ 134 ∷ 141 ∷ 147 ∷ 153 ∷ 159 ∷ 166 ∷ 172 ∷ 178 ∷ 184 ∷ 191 ∷ 197 ∷ 203 ∷ 209 ∷ 215 ∷ 222 ∷ 228 ∷ 234 ∷ 240 ∷ 247 ∷
     254 ∷ 260 ∷ 266 ∷ 272 ∷ 278 ∷ 285 ∷ 292 ∷ 298 ∷ 304 ∷ 310 ∷ 316 ∷ 323 ∷ 329 ∷ 335 ∷ 341 ∷ 348 ∷ 354 ∷ 360 ∷ 366 ∷ 372 ∷
@@ -14,8 +14,8 @@ checkStart =
     []
 
 -- The positions of each check, counted from 0: one for each of the 522 edges.
-unfoldable pub checkBits : List ℕ
-checkBits =
+unfoldable pub check_bits : List ℕ
+check_bits =
     3 ∷ 30 ∷ 58 ∷ 90 ∷ 91 ∷ 95 ∷ 152 ∷ 4 ∷ 31 ∷ 59 ∷ 92 ∷ 114 ∷ 145 ∷ 5 ∷ 23 ∷ 60 ∷ 93 ∷ 121 ∷ 150 ∷ 6 ∷
     32 ∷ 61 ∷ 94 ∷ 95 ∷ 142 ∷ 7 ∷ 24 ∷ 62 ∷ 82 ∷ 92 ∷ 95 ∷ 147 ∷ 5 ∷ 31 ∷ 63 ∷ 96 ∷ 125 ∷ 137 ∷ 4 ∷ 33 ∷
     64 ∷ 77 ∷ 97 ∷ 106 ∷ 153 ∷ 8 ∷ 34 ∷ 65 ∷ 98 ∷ 138 ∷ 145 ∷ 9 ∷ 35 ∷ 66 ∷ 99 ∷ 106 ∷ 125 ∷ 10 ∷ 36 ∷ 66 ∷
@@ -46,8 +46,8 @@ checkBits =
     []
 
 -- By slots: the three places of each position's edges, checks ascending. Entry j of check c lies at place 83 j + c.
-unfoldable pub slotEdge : List ℕ
-slotEdge =
+unfoldable pub slot_edge : List ℕ
+slot_edge =
     15 ∷ 44 ∷ 72 ∷ 24 ∷ 50 ∷ 61 ∷ 32 ∷ 57 ∷ 77 ∷ 0 ∷ 43 ∷ 127 ∷ 1 ∷ 6 ∷ 60 ∷ 2 ∷ 5 ∷ 53 ∷ 3 ∷ 34 ∷
     47 ∷ 4 ∷ 12 ∷ 20 ∷ 7 ∷ 55 ∷ 78 ∷ 8 ∷ 63 ∷ 68 ∷ 9 ∷ 18 ∷ 65 ∷ 10 ∷ 35 ∷ 59 ∷ 11 ∷ 36 ∷ 140 ∷ 13 ∷
     31 ∷ 42 ∷ 14 ∷ 62 ∷ 79 ∷ 16 ∷ 27 ∷ 76 ∷ 17 ∷ 73 ∷ 82 ∷ 21 ∷ 52 ∷ 80 ∷ 22 ∷ 29 ∷ 33 ∷ 23 ∷ 30 ∷ 39 ∷
@@ -78,8 +78,8 @@ slotEdge =
     []
 
 -- By slots: the place after the last entry of each check of six positions.
-unfoldable pub slotPads : List ℕ
-slotPads =
+unfoldable pub slot_pads : List ℕ
+slot_pads =
     499 ∷ 500 ∷ 501 ∷ 503 ∷ 505 ∷ 506 ∷ 508 ∷ 509 ∷ 512 ∷ 513 ∷ 514 ∷ 516 ∷ 518 ∷ 520 ∷ 521 ∷ 522 ∷ 524 ∷ 525 ∷ 526 ∷ 528 ∷
     529 ∷ 530 ∷ 531 ∷ 533 ∷ 534 ∷ 535 ∷ 538 ∷ 539 ∷ 540 ∷ 541 ∷ 544 ∷ 545 ∷ 546 ∷ 547 ∷ 549 ∷ 550 ∷ 551 ∷ 553 ∷ 554 ∷ 555 ∷
     556 ∷ 558 ∷ 559 ∷ 560 ∷ 562 ∷ 563 ∷ 564 ∷ 567 ∷ 568 ∷ 570 ∷ 571 ∷ 572 ∷ 573 ∷ 574 ∷ 575 ∷ 576 ∷ 578 ∷ 579 ∷ 580 ∷

@@ -9,39 +9,39 @@ use lib.ListN.{length, get_or}
 use borrow.Author.Tests.{ltb-true}
 use Rattle.tanner.specs.Flat.{joined, ends, offsets, rows_of, FlatChecks}
 use Rattle.lists.specs.Below.{Below}
-use Rattle.tanner.proofs.Flat.{rows-laid, flat-checks}
-use Rattle.code174.specs.Tables.{nm, numRows}
-use Rattle.code174.specs.Code174.{rowsOfSeven, checks}
+use Rattle.tanner.proofs.Flat.{rows_laid, flat_checks}
+use Rattle.code174.specs.Tables.{nm, num_rows}
+use Rattle.code174.specs.Code174.{rows_of_seven, checks}
 use Rattle.code174.specs.Agreement.{each}
-use Rattle.code174.proofs.Arrays.{checkStart, checkBits}
+use Rattle.code174.proofs.Arrays.{check_start, check_bits}
 use Rattle.code174.proofs.Tests.{each_at}
 
 -- ---- the checks
 
-pub check-bits : checkBits ≡ joined checks
-unfolding checkBits checks rowsOfSeven nm numRows joined
+pub check-bits : check_bits ≡ joined checks
+unfolding check_bits checks rows_of_seven nm num_rows joined
 check-bits = refl
 
-pub check-start : checkStart ≡ offsets checks
-unfolding checkStart checks rowsOfSeven nm numRows ends
+pub check-start : check_start ≡ offsets checks
+unfolding check_start checks rows_of_seven nm num_rows ends
 check-start = refl
 
 -- ---- what users of the arrays ask
 
-pub positions-low : Below 174 checkBits
-unfolding checkBits Below each
-positions-low k h = ltb-true _ _ (each_at 522 (λ (i : ℕ). ltb (get_or checkBits i 0) 174) refl k h)
+pub positions_low : Below 174 check_bits
+unfolding check_bits Below each
+positions_low k h = ltb-true _ _ (each_at 522 (λ (i : ℕ). ltb (get_or check_bits i 0) 174) refl k h)
 
 pub checks-low : Below 174 (joined checks)
-checks-low = rw check-bits at positions-low
+checks-low = rw check-bits at positions_low
 
 -- the arrays hold the check list
-pub laid : rows_of checkStart checkBits ≡ checks
-laid = ap₂ (λ (s f : List ℕ). rows_of s f) check-start check-bits ∙ rows-laid checks
+pub laid : rows_of check_start check_bits ≡ checks
+laid = ap₂ (λ (s f : List ℕ). rows_of s f) check-start check-bits ∙ rows_laid checks
 
 pub many : length checks ≡ 83
-unfolding checks rowsOfSeven numRows nm
+unfolding checks rows_of_seven num_rows nm
 many = refl
 
-pub flat : FlatChecks checkStart checkBits 174
-flat = rw (check-start, check-bits) (flat-checks checks 174 (omega (arith, many)) checks-low)
+pub flat : FlatChecks check_start check_bits 174
+flat = rw (check-start, check-bits) (flat_checks checks 174 (omega (arith, many)) checks-low)

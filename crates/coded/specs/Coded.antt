@@ -5,16 +5,16 @@ use Rattle.std.specs.Prelude.{ℕ, ℤ, pos, neg_ℤ}
 use Rattle.refusal.specs.Outcome.{Outcome, accepted, refused}
 
 -- the signed number, of an accepted call the part `of` its value
-abbrev pub codedBy : {A : Type 0} → (A → ℕ) → Outcome A → ℤ
-codedBy of (accepted v) = pos (of v)
-codedBy of (refused n) = neg_ℤ (pos n)
+abbrev pub coded_by : {A : Type 0} → (A → ℕ) → Outcome A → ℤ
+coded_by of (accepted v) = pos (of v)
+coded_by of (refused n) = neg_ℤ (pos n)
 
 abbrev pub coded : Outcome ℕ → ℤ
-coded = codedBy (λ v. v)
+coded = coded_by (λ v. v)
 
 -- an accepted call that has no value beside what it writes answers 0
 abbrev pub coded_unit : Outcome Unit → ℤ
-coded_unit = codedBy (λ _. 0)
+coded_unit = coded_by (λ _. 0)
 
 -- a number lent for a part of the value: what it held before the call, and after it
 pub record Lent : Type 0 where
@@ -24,6 +24,6 @@ pub record Lent : Type 0 where
 abbrev pub lent : ℕ → ℕ → Lent
 lent before after = record { before = before; after = after }
 
-abbrev pub toldIn : {A : Type 0} → (A → ℕ) → Outcome A → ℕ → ℕ
-toldIn of (accepted v) before = of v
-toldIn of (refused n) before = before
+abbrev pub told_in : {A : Type 0} → (A → ℕ) → Outcome A → ℕ → ℕ
+told_in of (accepted v) before = of v
+told_in of (refused n) before = before

@@ -1,6 +1,6 @@
 // An answer as one signed number of C: a value as it is, and a refusal as minus its number.
 ghost use Rattle.std.specs.Prelude.{◌≡◌, pos, neg_ℤ};
-ghost use Rattle.refusal.specs.Answers.{answer_of, statusOf};
+ghost use Rattle.refusal.specs.Answers.{answer_of, status_of};
 ghost use Rattle.refusal.specs.Numbers.{number_of};
 ghost use Rattle.coded.specs.Coded.{coded, coded_unit};
 
@@ -31,7 +31,7 @@ pub fn answer_code(answer: Answer) -> i32
 }
 
 pub fn status_code(answer: Status) -> i32
-    ensures { result ≡ coded_unit (statusOf answer) }
+    ensures { result ≡ coded_unit (status_of answer) }
 {
     match answer {
         Status::Done => 0,

@@ -1,5 +1,5 @@
 // Reception figures as numbers of C: 0 or minus a refusal's number, and the figures through the references lent for them.
-ghost use Rattle.figures.specs.Totals.{summedOf, figureOf};
+ghost use Rattle.figures.specs.Totals.{summed_of, figure_of};
 ghost use Rattle.coded_figures.specs.Figures.{totals, fraction, Writes};
 
 use figures::{Figure, Summed};
@@ -12,7 +12,7 @@ pub fn summed_code(
     counts: &mut u64,
     rounds: &mut u64,
 ) -> i32
-    ensures { Writes (summedOf answer) result
+    ensures { Writes (summed_of answer) result
         (totals frames.old clean.old counts.old rounds.old)
         (totals frames.new clean.new counts.new rounds.new) }
 {
@@ -30,7 +30,7 @@ pub fn summed_code(
 
 // 0, with the fraction written, or minus a refusal's number.
 pub fn figure_code(answer: Figure, over: &mut u64, under: &mut u64) -> i32
-    ensures { Writes (figureOf answer) result
+    ensures { Writes (figure_of answer) result
         (fraction over.old under.old) (fraction over.new under.new) }
 {
     match answer {

@@ -1,11 +1,11 @@
 // Answers that tell more than a number: one signed number of C, and the rest through the references lent for it.
 ghost use Rattle.std.specs.Prelude.{◌≡◌, ◌<◌};
-ghost use Rattle.tanner.specs.Found.{countingOf};
-ghost use Rattle.decoders.specs.Calls.{decodingOf};
-ghost use Rattle.reason.specs.Calls.{explainedOf};
+ghost use Rattle.tanner.specs.Found.{counting_of};
+ghost use Rattle.decoders.specs.Calls.{decoding_of};
+ghost use Rattle.reason.specs.Calls.{explained_of};
 ghost use Rattle.cycles.specs.Calls.{Report, listed_of};
-ghost use Rattle.coded.specs.Coded.{lent, toldIn};
-ghost use Rattle.coded_parts.specs.Parts.{Counts, Decodes, kind_of, part_of, computedOf, Explains, Lists};
+ghost use Rattle.coded.specs.Coded.{lent, told_in};
+ghost use Rattle.coded_parts.specs.Parts.{Counts, Decodes, kind_of, part_of, computed_of, Explains, Lists};
 
 use cycles::Listed;
 use decoders::Decoding;
@@ -15,7 +15,7 @@ use tanner::Counting;
 
 // A count; its first check is written.
 pub fn counting_code(answer: Counting, first: &mut u16) -> i32
-    ensures { Counts (countingOf answer) result (lent first.old first.new) }
+    ensures { Counts (counting_of answer) result (lent first.old first.new) }
 {
     match answer {
         Counting::Counted(counted) => {
@@ -29,7 +29,7 @@ pub fn counting_code(answer: Counting, first: &mut u16) -> i32
 
 // A decode's count; its rounds run and its first check are written.
 pub fn decoding_code(answer: Decoding, rounds: &mut u16, first: &mut u16) -> i32
-    ensures { Decodes (decodingOf answer) result (lent rounds.old rounds.new)
+    ensures { Decodes (decoding_of answer) result (lent rounds.old rounds.new)
         (lent first.old first.new) }
 {
     match answer {
@@ -75,7 +75,7 @@ fn part_of(reason: Reason) -> u16
 
 // The computed checksum; 0 where there is none.
 fn computed_of(reason: Reason) -> u16
-    ensures { result ≡ computedOf reason }
+    ensures { result ≡ computed_of reason }
 {
     match reason {
         Reason::Nan(_) => 0,
@@ -90,7 +90,7 @@ fn computed_of(reason: Reason) -> u16
 
 // A reason's number; its part and the computed checksum are written.
 pub fn reason_code(answer: Explained, part: &mut u16, computed: &mut u16) -> i32
-    ensures { Explains (explainedOf answer) result (lent part.old part.new)
+    ensures { Explains (explained_of answer) result (lent part.old part.new)
         (lent computed.old computed.new) }
 {
     match answer {
@@ -105,7 +105,7 @@ pub fn reason_code(answer: Explained, part: &mut u16, computed: &mut u16) -> i32
 
 // How many cycles, which fits; the relaxed picks are written.
 pub fn listed_code(answer: Listed, relaxed: &mut u16) -> i32
-    requires { toldIn (λ (r : Report). r.cycles) (listed_of answer) 0 < 2147483648 }
+    requires { told_in (λ (r : Report). r.cycles) (listed_of answer) 0 < 2147483648 }
     ensures { Lists (listed_of answer) result (lent relaxed.old relaxed.new) }
 {
     match answer {

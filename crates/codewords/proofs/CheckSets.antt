@@ -4,8 +4,8 @@ use mathlib.Core.List.{List, [], ◌∷◌}
 use Prim.Native.Nat.{ℕ}
 
 -- A number for each of the 83 parity bits: its binary digit c, the lowest being 0, is 1 where check c is added.
-unfoldable pub checkSets : List ℕ
-checkSets =
+unfoldable pub check_sets : List ℕ
+check_sets =
     0x5d308f6cb56570f57b913 ∷
     0x150642ac074f8f830ac5e ∷
     0x1954a6fcfd5ad558dcae0 ∷

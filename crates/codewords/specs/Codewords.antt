@@ -4,7 +4,7 @@ use Rattle.bits.specs.Bits.{bits, packed}
 use Rattle.tanner.specs.Checks.{Word, count}
 use Rattle.lists.specs.Below.{Below}
 use Rattle.code174.specs.Code174.{checks}
-use Rattle.ldpc_encoding.specs.Encoding.{encodeBits, codewordOf}
+use Rattle.ldpc_encoding.specs.Encoding.{encode_bits, codeword_of}
 
 -- a word of 174 bits that has count 0
 pub record Codeword (w : Word) : Type 0 where
@@ -20,17 +20,17 @@ pub record Packed (m : List ℕ) : Type 0 where
 
 -- the word in the 22 bytes of a message's codeword; the message packed of a word's first 91 bits
 abbrev pub word_of : List ℕ → Word
-word_of m = take 174 (bits (codewordOf m))
+word_of m = take 174 (bits (codeword_of m))
 
-abbrev pub messageOf : Word → List ℕ
-messageOf w = packed 12 (take 91 w ++ replicate 5 0)
+abbrev pub message_of : Word → List ℕ
+message_of w = packed 12 (take 91 w ++ replicate 5 0)
 
 pub record Codewords : Type 0 where
   -- "a word of 174 bits has count 0 exactly when it is the encoding of its first 91 bits"
-  pub encoding : (w : Word) → Codeword w → w ≡ encodeBits (take 91 w)
-  pub satisfied : (w : Word) → length w ≡ 174 → w ≡ encodeBits (take 91 w) → count checks w ≡ 0
+  pub encoding : (w : Word) → Codeword w → w ≡ encode_bits (take 91 w)
+  pub satisfied : (w : Word) → length w ≡ 174 → w ≡ encode_bits (take 91 w) → count checks w ≡ 0
   -- "each packed message with zero low bits giving one such word": its word is one, no other message gives it, and no such word is left out
   pub given : (m : List ℕ) → Packed m → Codeword (word_of m)
-  pub front : (m : List ℕ) → Packed m → word_of m ≡ encodeBits (take 91 (bits m))
-  pub back : (m : List ℕ) → Packed m → messageOf (word_of m) ≡ m
-  pub every : (w : Word) → Codeword w → Packed (messageOf w) × (word_of (messageOf w) ≡ w)
+  pub front : (m : List ℕ) → Packed m → word_of m ≡ encode_bits (take 91 (bits m))
+  pub back : (m : List ℕ) → Packed m → message_of (word_of m) ≡ m
+  pub every : (w : Word) → Codeword w → Packed (message_of w) × (word_of (message_of w) ≡ w)

@@ -11,15 +11,15 @@ use lib.ListN.{length, get_or, set, drop, drop_of_length-le}
 use lib.Seq.{drop-cons}
 use Rattle.columns.specs.Rows.{holds, times, sorted}
 
-pub holds-append : (xs ys : List ℕ) (r : ℕ) → holds (xs ++ ys) r ≡ (holds xs r || holds ys r)
+pub holds_append : (xs ys : List ℕ) (r : ℕ) → holds (xs ++ ys) r ≡ (holds xs r || holds ys r)
 unfolding holds
-holds-append [] ys r = refl
-holds-append (x ∷ xs) ys r = rw (holds-append xs ys r, or_assoc)
+holds_append [] ys r = refl
+holds_append (x ∷ xs) ys r = rw (holds_append xs ys r, or_assoc)
 
-pub times-append : (xs ys : List ℕ) (r : ℕ) → times (xs ++ ys) r ≡ times xs r + times ys r
+pub times_append : (xs ys : List ℕ) (r : ℕ) → times (xs ++ ys) r ≡ times xs r + times ys r
 unfolding times
-times-append [] ys r = omega arith
-times-append (x ∷ xs) ys r = rw (times-append xs ys r) (omega arith)
+times_append [] ys r = omega arith
+times_append (x ∷ xs) ys r = rw (times_append xs ys r) (omega arith)
 
 one_at_most : (b : Bool) → cond b 1 0 ≤ 1
 one_at_most true = omega arith
@@ -45,10 +45,10 @@ module _ (c : List ℕ) (i r : ℕ) {b : Bool} (inv : holds (drop i c) r ≡ b) 
   seek-done h = rw (drop_of_length-le c h) at inv
 
 -- three stores to a list of three
-pub three-stored : (l : List ℕ) (x y z : ℕ) → length l ≡ 3 → x ∷ (y ∷ (z ∷ [])) ≡ sorted (get_or l 0 0 ∷ (get_or l 1 0 ∷ (get_or l 2 0 ∷ [])))
+pub three_stored : (l : List ℕ) (x y z : ℕ) → length l ≡ 3 → x ∷ (y ∷ (z ∷ [])) ≡ sorted (get_or l 0 0 ∷ (get_or l 1 0 ∷ (get_or l 2 0 ∷ [])))
     → set (set (set l 0 x) 1 y) 2 z ≡ sorted l
-three-stored [] x y z e s = absurd (omega arith)
-three-stored (a ∷ []) x y z e s = absurd (omega arith)
-three-stored (a ∷ (b ∷ [])) x y z e s = absurd (omega arith)
-three-stored (a ∷ (b ∷ (c ∷ []))) x y z e s = s
-three-stored (a ∷ (b ∷ (c ∷ (d ∷ l)))) x y z e s = absurd (omega arith)
+three_stored [] x y z e s = absurd (omega arith)
+three_stored (a ∷ []) x y z e s = absurd (omega arith)
+three_stored (a ∷ (b ∷ [])) x y z e s = absurd (omega arith)
+three_stored (a ∷ (b ∷ (c ∷ []))) x y z e s = s
+three_stored (a ∷ (b ∷ (c ∷ (d ∷ l)))) x y z e s = absurd (omega arith)

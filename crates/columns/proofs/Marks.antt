@@ -11,34 +11,34 @@ use lib.ListN.{length, get_or, set, take, drop, length-set, length-take, replica
 use borrow.Author.Fill.{fill_more}
 use lib.Seq.{get_or-set_same, get_or-set_other, take-suc, drop-length}
 use Rattle.columns.specs.Rows.{holds, times, together}
-use Rattle.columns.specs.Tables.{flagAt, columnAt, columnsIn, Marked, MarkedWith, AllMarked, Loaded, Room}
+use Rattle.columns.specs.Tables.{flag_at, column_at, columns_in, Marked, MarkedWith, AllMarked, Loaded, Room}
 use Rattle.lists.specs.Below.{Below}
-use Rattle.columns.proofs.Columns.{holds-append, times-append, times-le}
+use Rattle.columns.proofs.Columns.{holds_append, times_append, times-le}
 
 -- ---- one store
-flag-set-if : (v : List ℕ) (q r : ℕ) (b : Bool) → eqb q r ≡ b → r < length v → flagAt (set v q 1) r ≡ (b || flagAt v r)
-unfolding flagAt
-flag-set-if v q r true e h = rw (eqb-true q r e, get_or-set_same v r 1 0 h)
-flag-set-if v q r false e h = rw (get_or-set_other v q r 1 0 (λ p. eqb-false q r e (sym p)))
+flag_set_if : (v : List ℕ) (q r : ℕ) (b : Bool) → eqb q r ≡ b → r < length v → flag_at (set v q 1) r ≡ (b || flag_at v r)
+unfolding flag_at
+flag_set_if v q r true e h = rw (eqb-true q r e, get_or-set_same v r 1 0 h)
+flag_set_if v q r false e h = rw (get_or-set_other v q r 1 0 (λ p. eqb-false q r e (sym p)))
 
-pub flag-set-at : (v : List ℕ) (q r : ℕ) → r < length v → flagAt (set v q 1) r ≡ (eqb q r || flagAt v r)
-flag-set-at v q r h = flag-set-if v q r (eqb q r) refl h
+pub flag_set_at : (v : List ℕ) (q r : ℕ) → r < length v → flag_at (set v q 1) r ≡ (eqb q r || flag_at v r)
+flag_set_at v q r h = flag_set_if v q r (eqb q r) refl h
 
-load-set-if : (v : List ℕ) (q r : ℕ) (b : Bool) → eqb q r ≡ b → r < length v → get_or (set v q (get_or v q 0 + 1)) r 0 ≡ cond b 1 0 + get_or v r 0
-load-set-if v q r true e h = rw (eqb-true q r e, get_or-set_same v r (get_or v r 0 + 1) 0 h) (omega arith)
-load-set-if v q r false e h = rw (get_or-set_other v q r (get_or v q 0 + 1) 0 (λ p. eqb-false q r e (sym p))) (omega arith)
+load-set_if : (v : List ℕ) (q r : ℕ) (b : Bool) → eqb q r ≡ b → r < length v → get_or (set v q (get_or v q 0 + 1)) r 0 ≡ cond b 1 0 + get_or v r 0
+load-set_if v q r true e h = rw (eqb-true q r e, get_or-set_same v r (get_or v r 0 + 1) 0 h) (omega arith)
+load-set_if v q r false e h = rw (get_or-set_other v q r (get_or v q 0 + 1) 0 (λ p. eqb-false q r e (sym p))) (omega arith)
 
-pub load-set-at : (v : List ℕ) (q r : ℕ) → r < length v → get_or (set v q (get_or v q 0 + 1)) r 0 ≡ cond (eqb q r) 1 0 + get_or v r 0
-load-set-at v q r h = load-set-if v q r (eqb q r) refl h
+pub load-set_at : (v : List ℕ) (q r : ℕ) → r < length v → get_or (set v q (get_or v q 0 + 1)) r 0 ≡ cond (eqb q r) 1 0 + get_or v r 0
+load-set_at v q r h = load-set_if v q r (eqb q r) refl h
 
 -- ---- a column's rows, one after another
 one_holds : (q r : ℕ) → holds (q ∷ []) r ≡ eqb q r
 unfolding holds
 one_holds q r = or-false (eqb q r)
 
-one-times : (q r : ℕ) → times (q ∷ []) r ≡ cond (eqb q r) 1 0
+one_times : (q r : ℕ) → times (q ∷ []) r ≡ cond (eqb q r) 1 0
 unfolding times
-one-times q r = omega arith
+one_times q r = omega arith
 
 pub or_swap : (a b c : Bool) → (b || (a || c)) ≡ ((a || b) || c)
 or_swap true b c = or-true b
@@ -52,15 +52,15 @@ module _ (c u v : List ℕ) (i : ℕ) (more : i < length c) (size : length v ≡
   pub marked_more : Marked (take i c) u v → Marked (take (i + 1) c) u (set v (get_or c i 0) 1)
   unfolding Marked
   marked_more inv r h =
-      flag-set-at v (get_or c i 0) r (omega arith)
-      ∙ rw (inv r h, add-one, take-suc c i 0 more, holds-append (take i c) (get_or c i 0 ∷ []) r, one_holds (get_or c i 0) r)
-      (or_swap (holds (take i c) r) (eqb (get_or c i 0) r) (flagAt u r))
+      flag_set_at v (get_or c i 0) r (omega arith)
+      ∙ rw (inv r h, add-one, take-suc c i 0 more, holds_append (take i c) (get_or c i 0 ∷ []) r, one_holds (get_or c i 0) r)
+      (or_swap (holds (take i c) r) (eqb (get_or c i 0) r) (flag_at u r))
 
   pub loaded-more : Loaded (take i c) u v → Loaded (take (i + 1) c) u (set v (get_or c i 0) (get_or v (get_or c i 0) 0 + 1))
   unfolding Loaded
   loaded-more inv r h =
-      load-set-at v (get_or c i 0) r (omega arith)
-      ∙ rw (inv r h, add-one, take-suc c i 0 more, times-append (take i c) (get_or c i 0 ∷ []) r, one-times (get_or c i 0) r) (omega arith)
+      load-set_at v (get_or c i 0) r (omega arith)
+      ∙ rw (inv r h, add-one, take-suc c i 0 more, times_append (take i c) (get_or c i 0 ∷ []) r, one_times (get_or c i 0) r) (omega arith)
 
   pub loaded-room : Below (length u) c → Room (length c) u → Loaded (take i c) u v → get_or v (get_or c i 0) 0 + 1 < 65536
   unfolding Room Loaded Below
@@ -75,29 +75,29 @@ loaded-none u r h = omega arith
 
 -- ---- the columns, one after another, each marked where it holds q
 unfoldable pub Joined : List (List ℕ) → ℕ → List ℕ → List ℕ → Type 0
-Joined cs q u v = (r : ℕ) → r < length u → flagAt v r ≡ (together cs q r || flagAt u r)
+Joined cs q u v = (r : ℕ) → r < length u → flag_at v r ≡ (together cs q r || flag_at u r)
 
-pub joined-none : (rows : List ℕ) (q : ℕ) (u : List ℕ) → Joined (columnsIn rows 0) q u u
-unfolding Joined together columnsIn
+pub joined-none : (rows : List ℕ) (q : ℕ) (u : List ℕ) → Joined (columns_in rows 0) q u u
+unfolding Joined together columns_in
 joined-none rows q u r h = refl
 
-column-part : (rows : List ℕ) (j : ℕ) → take (3 * j + 3 - 3 * j) (drop (3 * j) rows) ≡ columnAt rows j
-unfolding columnAt
-column-part rows j =
+column_part : (rows : List ℕ) (j : ℕ) → take (3 * j + 3 - 3 * j) (drop (3 * j) rows) ≡ column_at rows j
+unfolding column_at
+column_part rows j =
     let e : 3 * j + 3 - 3 * j ≡ 3 = omega arith in
     rw e
 
-pub joined-more : (rows : List ℕ) (j q : ℕ) (u v w : List ℕ) → length v ≡ length u → Joined (columnsIn rows j) q u v
-    → MarkedWith (take (3 * j + 3 - 3 * j) (drop (3 * j) rows)) q v w → Joined (columnsIn rows (j + 1)) q u w
-unfolding Joined MarkedWith together columnsIn
-joined-more rows j q u v w size inv m r h =
-    let c = columnAt rows j in
-    let n = rw (column-part rows j) at (m r (omega arith)) in
-    rw add-one (n ∙ rw (inv r h) (sym (or_assoc (holds c q && holds c r) (together (columnsIn rows j) q r) (flagAt u r))))
+pub joined_more : (rows : List ℕ) (j q : ℕ) (u v w : List ℕ) → length v ≡ length u → Joined (columns_in rows j) q u v
+    → MarkedWith (take (3 * j + 3 - 3 * j) (drop (3 * j) rows)) q v w → Joined (columns_in rows (j + 1)) q u w
+unfolding Joined MarkedWith together columns_in
+joined_more rows j q u v w size inv m r h =
+    let c = column_at rows j in
+    let n = rw (column_part rows j) at (m r (omega arith)) in
+    rw add-one (n ∙ rw (inv r h) (sym (or_assoc (holds c q && holds c r) (together (columns_in rows j) q r) (flag_at u r))))
 
-pub with-held : (c : List ℕ) (q : ℕ) (u v : List ℕ) → holds c q ≡ true → Marked c u v → MarkedWith c q u v
+pub with_held : (c : List ℕ) (q : ℕ) (u v : List ℕ) → holds c q ≡ true → Marked c u v → MarkedWith c q u v
 unfolding Marked MarkedWith
-with-held c q u v e m r h = rw e (m r h)
+with_held c q u v e m r h = rw e (m r h)
 
 pub with_none : (c : List ℕ) (q : ℕ) (u : List ℕ) → holds c q ≡ false → MarkedWith c q u u
 unfolding MarkedWith
@@ -106,7 +106,7 @@ with_none c q u e r h = rw e
 pub joined-all : (cs : List (List ℕ)) (q : ℕ) (u v : List ℕ) → Joined cs q (set u q 1) v → AllMarked cs q u v
 unfolding Joined AllMarked
 joined-all cs q u v inv r h =
-    inv r (simp length-set (omega arith)) ∙ rw (flag-set-at u q r h) (or_swap (eqb q r) (together cs q r) (flagAt u r))
+    inv r (simp length-set (omega arith)) ∙ rw (flag_set_at u q r h) (or_swap (eqb q r) (together cs q r) (flag_at u r))
 
 -- ---- zeros
 pub cleared_more : (u v : List ℕ) (i : ℕ) → i < length v → length v ≡ length u → v ≡ replicate i 0 ++ drop i u

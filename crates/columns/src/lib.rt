@@ -1,7 +1,7 @@
 // A column of rows: whether it holds one, the flags and the loads of its rows, and its sorting.
 ghost use Rattle.std.specs.Prelude.{◌≡◌, [], ◌∷◌, ◌*◌, ◌≤◌, ◌<◌, length, take, replicate};
 ghost use Rattle.columns.specs.Rows.{holds, sorted};
-ghost use Rattle.columns.specs.Tables.{columnsIn, Marked, MarkedWith, AllMarked, Loaded, Room};
+ghost use Rattle.columns.specs.Tables.{columns_in, Marked, MarkedWith, AllMarked, Loaded, Room};
 ghost use Rattle.lists.specs.Below.{Below};
 
 // Whether the column holds the row.
@@ -68,7 +68,7 @@ pub fn mark_together(marks: &mut [u8], rows: &[u16], n: usize, q: usize)
     requires q_in_bounds { q < length marks.old }
     requires n_in_bounds { 3 * n ≤ length rows.now }
     requires below { Below (length marks.old) (take (3 * n) rows.now) }
-    ensures { AllMarked (columnsIn rows.now n) q marks.old marks.new }
+    ensures { AllMarked (columns_in rows.now n) q marks.old marks.new }
 {
     marks[q] = 1;
     let mut j = 0;

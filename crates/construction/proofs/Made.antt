@@ -6,19 +6,19 @@ use native.Mathlib.Numerals.{add-one}
 use native.Mathlib.Omega.{arith}
 use lib.ListN.{length, take, drop, replicate, get_or-replicate, length-replicate}
 use lib.Seq.{take-add, take-length}
-use Rattle.columns.specs.Tables.{columnAt, columnsIn, flagAt}
+use Rattle.columns.specs.Tables.{column_at, columns_in, flag_at}
 use Rattle.lists.specs.Below.{Below}
 use Rattle.placing.specs.OnePick.{load, skipped}
 use Rattle.placing.specs.Tables.{Loads, Flags, Ready, Begun, Finished}
 use Rattle.placing.proofs.Picks.{columns-same}
-use Rattle.construction.specs.Columns.{finished, nextColumn, made, laidBefore, rows_of}
+use Rattle.construction.specs.Columns.{finished, next_column, made, laid_before, rows_of}
 use Rattle.construction.specs.Tables.{ColumnMade, Blank, Constructed}
 use Rattle.construction.proofs.Picks.{Picked}
 
 -- three picks, finished
 pub column-made : {m n state s x : ℕ} {rows rows' rows'' loads'' marks'' : List ℕ} → Picked m n 3 state rows s x rows'
-    → Finished m n (columnAt rows' n) rows' rows'' loads'' marks'' → ColumnMade m n state rows s x rows'' loads'' marks''
-unfolding columnAt
+    → Finished m n (column_at rows' n) rows' rows'' loads'' marks'' → ColumnMade m n state rows s x rows'' loads'' marks''
+unfolding column_at
 column-made {n = n} {rows = rows} {rows'} p f = record {
   drawn = p.drawn;
   relaxes = p.relaxes;
@@ -32,28 +32,28 @@ column-made {n = n} {rows = rows} {rows'} p f = record {
 }
 
 -- ---- the columns one after another
-pub laid-rows : (rows l : List ℕ) (n : ℕ) → 3 * n ≤ length rows → laidBefore (columnsIn rows n) l ≡ take (3 * n) rows ++ l
-unfolding laidBefore columnsIn columnAt
-laid-rows rows l zero h = refl
-laid-rows rows l (suc n) h =
+pub laid_rows : (rows l : List ℕ) (n : ℕ) → 3 * n ≤ length rows → laid_before (columns_in rows n) l ≡ take (3 * n) rows ++ l
+unfolding laid_before columns_in column_at
+laid_rows rows l zero h = refl
+laid_rows rows l (suc n) h =
     let e : 3 * suc n ≡ 3 * n + 3 = omega arith in
-    laid-rows rows (take 3 (drop (3 * n) rows) ++ l) n (omega arith)
+    laid_rows rows (take 3 (drop (3 * n) rows) ++ l) n (omega arith)
     ∙ rw (e, take-add (3 * n) 3 rows, append_assoc (take (3 * n) rows) (take 3 (drop (3 * n) rows)) l)
 
 -- n columns are made
 pub record Built (m n seed : ℕ) (rows loads marks : List ℕ) (state relaxed : ℕ) : Type 0 where
-  pub ready : Ready m (columnsIn rows n) loads marks
+  pub ready : Ready m (columns_in rows n) loads marks
   pub drawn : state ≡ (made n m seed).state
   pub relaxes : relaxed ≡ (made n m seed).relaxed
   pub at_most : relaxed ≤ 3 * n
-  pub columns : columnsIn rows n ≡ (made n m seed).columns
+  pub columns : columns_in rows n ≡ (made n m seed).columns
   pub below : Below m (take (3 * n) rows)
   pub clear : marks ≡ replicate m 0
 
 -- loads and flags that are cleared
-pub cleared-blank : (m n k : ℕ) (rows loads marks : List ℕ) → length rows ≡ 3 * k → 3 * k < 65536 → (0 < m) × ((m ≤ 65536) × (n ≡ m))
+pub cleared_blank : (m n k : ℕ) (rows loads marks : List ℕ) → length rows ≡ 3 * k → 3 * k < 65536 → (0 < m) × ((m ≤ 65536) × (n ≡ m))
     → loads ≡ replicate m 0 → marks ≡ replicate n 0 → Blank (length loads) k rows loads marks
-cleared-blank m n k rows loads marks long small sizes unloaded clear =
+cleared_blank m n k rows loads marks long small sizes unloaded clear =
     let same = ap length unloaded ∙ length-replicate m 0 in
     record {
       some = rw same sizes.0;
@@ -64,19 +64,19 @@ cleared-blank m n k rows loads marks long small sizes unloaded clear =
       clear = rw (same, ← sizes.1.1) clear;
     }
 
-zero-loads : (m : ℕ) → Loads [] (replicate m 0)
+zero_loads : (m : ℕ) → Loads [] (replicate m 0)
 unfolding Loads load
-zero-loads m r h = get_or-replicate {A = ℕ} m r 0 0 (omega (arith, length-replicate {A = ℕ} m 0))
+zero_loads m r h = get_or-replicate {A = ℕ} m r 0 0 (omega (arith, length-replicate {A = ℕ} m 0))
 
-pub built-none : {m k : ℕ} {rows loads marks : List ℕ} (seed : ℕ) → Blank m k rows loads marks → Built m 0 seed rows loads marks seed 0
-unfolding made columnsIn Below
-built-none {m} seed b = record {
+pub built_none : {m k : ℕ} {rows loads marks : List ℕ} (seed : ℕ) → Blank m k rows loads marks → Built m 0 seed rows loads marks seed 0
+unfolding made columns_in Below
+built_none {m} seed b = record {
   ready = record {
     some = b.some;
     narrow = b.narrow;
-    rowsAre = ap length b.unloaded ∙ length-replicate m 0;
-    flagsAre = ap length b.clear ∙ length-replicate m 0;
-    right = rw b.unloaded (zero-loads m);
+    rows_are = ap length b.unloaded ∙ length-replicate m 0;
+    flags_are = ap length b.clear ∙ length-replicate m 0;
+    right = rw b.unloaded (zero_loads m);
   };
   drawn = refl;
   relaxes = refl;
@@ -87,10 +87,10 @@ built-none {m} seed b = record {
 }
 
 -- the next column can begin
-pub built-begun : {m n seed : ℕ} {rows loads marks : List ℕ} {s x : ℕ} → Built m n seed rows loads marks s x → 3 * n + 3 ≤ length rows → 3 * n + 3 < 65536
+pub built_begun : {m n seed : ℕ} {rows loads marks : List ℕ} {s x : ℕ} → Built m n seed rows loads marks s x → 3 * n + 3 ≤ length rows → 3 * n + 3 < 65536
     → Begun m n 0 rows loads marks
-unfolding Flags skipped flagAt
-built-begun {m} {n} b room few = record {
+unfolding Flags skipped flag_at
+built_begun {m} {n} b room few = record {
   ready = b.ready;
   room = room;
   few = few;
@@ -100,10 +100,10 @@ built-begun {m} {n} b room few = record {
   flags = rw b.clear (λ r h. rw (get_or-replicate {A = ℕ} m r 0 0 (omega (arith, length-replicate {A = ℕ} m 0))));
 }
 
-pub built-more : {m n seed : ℕ} {rows rows' loads loads' marks marks' : List ℕ} {s s' x x' : ℕ} → Built m n seed rows loads marks s x
+pub built_more : {m n seed : ℕ} {rows rows' loads loads' marks marks' : List ℕ} {s s' x x' : ℕ} → Built m n seed rows loads marks s x
     → ColumnMade m n s rows s' x' rows' loads' marks' → Built m (n + 1) seed rows' loads' marks' s' (x + x')
-unfolding made nextColumn finished
-built-more {n = n} b c = record {
+unfolding made next_column finished
+built_more {n = n} b c = record {
   ready = rw add-one c.finished.ready;
   drawn = rw (add-one, c.drawn, b.columns, b.drawn);
   relaxes = rw (add-one, c.relaxes, b.columns, b.drawn, b.relaxes);
@@ -113,10 +113,10 @@ built-more {n = n} b c = record {
   clear = c.finished.clear;
 }
 
-pub built-all : {m n seed : ℕ} {rows loads marks : List ℕ} {s x : ℕ} → length rows ≡ 3 * n → Built m n seed rows loads marks s x → Constructed n m seed rows s x
+pub built_all : {m n seed : ℕ} {rows loads marks : List ℕ} {s x : ℕ} → length rows ≡ 3 * n → Built m n seed rows loads marks s x → Constructed n m seed rows s x
 unfolding rows_of
-built-all {n = n} {rows = rows} size b =
-    let all = laid-rows rows [] n (omega arith) in
+built_all {n = n} {rows = rows} size b =
+    let all = laid_rows rows [] n (omega arith) in
     record {
       rows = sym (rw (← b.columns) (all ∙ append-nil (take (3 * n) rows) ∙ rw (← size) (take-length rows)));
       state = b.drawn;

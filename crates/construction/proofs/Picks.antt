@@ -7,19 +7,19 @@ use native.Mathlib.Numerals.{add-one}
 use native.Mathlib.Omega.{arith}
 use lib.ListN.{length, set, take, drop}
 use Rattle.xorshift.specs.Draw.{draw}
-use Rattle.columns.specs.Tables.{columnsIn}
+use Rattle.columns.specs.Tables.{columns_in}
 use Rattle.placing.specs.OnePick.{pick}
 use Rattle.placing.specs.Tables.{Begun, Placed}
 use Rattle.placing.proofs.Picks.{columns-same, set-earlier, set-picked}
-use Rattle.construction.specs.Columns.{onePick, picks}
+use Rattle.construction.specs.Columns.{one_pick, picks}
 
 -- t picks of column n are made: the generator's state, the rows, and how many were relaxed are the definition's
 pub record Picked (m n t state : ℕ) (rows : List ℕ) (state' relaxed : ℕ) (rows' : List ℕ) : Type 0 where
   pub earlier : take (3 * n) rows' ≡ take (3 * n) rows
-  pub drawn : state' ≡ (picks t m (columnsIn rows n) state).state
-  pub relaxes : relaxed ≡ (picks t m (columnsIn rows n) state).relaxed
+  pub drawn : state' ≡ (picks t m (columns_in rows n) state).state
+  pub relaxes : relaxed ≡ (picks t m (columns_in rows n) state).relaxed
   pub at_most : relaxed ≤ t
-  pub picked : take t (drop (3 * n) rows') ≡ (picks t m (columnsIn rows n) state).rows
+  pub picked : take t (drop (3 * n) rows') ≡ (picks t m (columns_in rows n) state).rows
 
 picked_none : (m n state : ℕ) (rows : List ℕ) → Picked m n 0 state rows state 0 rows
 unfolding picks
@@ -27,12 +27,12 @@ picked_none m n state rows = record { earlier = refl; drawn = refl; relaxes = re
 
 picked_more : {m n t state : ℕ} {rows rows' rows'' loads marks' marks'' : List ℕ} {s s' x x' : ℕ} → t < 3 → Picked m n t state rows s x rows'
     → Begun m n t rows' loads marks' → s' ≡ draw s → Placed m n t s' rows' loads x' rows'' marks'' → Picked m n (t + 1) state rows s' (x + x') rows''
-unfolding picks onePick
+unfolding picks one_pick
 picked_more {m} {n} {t} {state} {rows} {rows'} {rows''} {s = s} {s' = s'} early p b d q =
-    let cs : columnsIn rows' n ≡ columnsIn rows n = columns-same n rows' rows p.earlier in
+    let cs : columns_in rows' n ≡ columns_in rows n = columns-same n rows' rows p.earlier in
     let fits : 3 * n + t < length rows' = omega (arith, b.room) in
-    let c = pick m (columnsIn rows n) (picks t m (columnsIn rows n) state).rows (draw (picks t m (columnsIn rows n) state).state) in
-    let same : pick m (columnsIn rows' n) (take t (drop (3 * n) rows')) s' ≡ c = rw (cs, p.picked, d, p.drawn) in
+    let c = pick m (columns_in rows n) (picks t m (columns_in rows n) state).rows (draw (picks t m (columns_in rows n) state).state) in
+    let same : pick m (columns_in rows' n) (take t (drop (3 * n) rows')) s' ≡ c = rw (cs, p.picked, d, p.drawn) in
     let stored : rows'' ≡ set rows' (3 * n + t) c.row = rw same at q.stored in
     record {
       earlier = rw (stored, set-earlier n t c.row rows' fits) p.earlier;
@@ -43,11 +43,11 @@ picked_more {m} {n} {t} {state} {rows} {rows'} {rows''} {s = s} {s' = s'} early 
     }
 
 -- three picks, each at the draw after the one before
-pub picked-three : {m n s s₁ s₂ s₃ x₁ x₂ x₃ : ℕ} {rows rows₁ rows₂ rows₃ loads marks marks₁ marks₂ marks₃ : List ℕ} → Begun m n 0 rows loads marks
+pub picked_three : {m n s s₁ s₂ s₃ x₁ x₂ x₃ : ℕ} {rows rows₁ rows₂ rows₃ loads marks marks₁ marks₂ marks₃ : List ℕ} → Begun m n 0 rows loads marks
     → (s₁ ≡ draw s) × Placed m n 0 s₁ rows loads x₁ rows₁ marks₁ → (s₂ ≡ draw s₁) × Placed m n 1 s₂ rows₁ loads x₂ rows₂ marks₂
     → (s₃ ≡ draw s₂) × Placed m n 2 s₃ rows₂ loads x₃ rows₃ marks₃
     → Picked m n 3 s rows s₃ (x₁ + x₂ + x₃) rows₃
-picked-three {m} {n} {s} {s₁} {x₁ = x₁} {rows = rows} {rows₁} b one two three =
+picked_three {m} {n} {s} {s₁} {x₁ = x₁} {rows = rows} {rows₁} b one two three =
     let first : Picked m n 1 s rows s₁ x₁ rows₁ = rw (zero-add x₁) at (picked_more (omega arith) (picked_none m n s rows) b one.0 one.1) in
     let second = picked_more (omega arith) first one.1.begun two.0 two.1 in
     picked_more (omega arith) second two.1.begun three.0 three.1

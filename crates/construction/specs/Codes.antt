@@ -9,8 +9,8 @@ pub record Code : Type 0 where
   pub seed : ℕ
 
 -- N, the block length: "M = N - K"
-abbrev pub blockLength : Code → ℕ
-blockLength c = c.k + c.m
+abbrev pub block_length : Code → ℕ
+block_length c = c.k + c.m
 
 abbrev pub n512r12 : Code
 n512r12 = record { k = 256; m = 256; seed = 0x4C44_5043_3531_3200 }
@@ -22,9 +22,9 @@ abbrev pub n512r34 : Code
 n512r34 = record { k = 384; m = 128; seed = 0x4C44_5043_3531_3202 }
 
 -- the rows of the code's message columns, three a column
-abbrev pub messageRows : Code → List ℕ
-messageRows c = rows_of c.k c.m c.seed
+abbrev pub message_rows : Code → List ℕ
+message_rows c = rows_of c.k c.m c.seed
 
 -- how many picks were relaxed
-abbrev pub relaxedPicks : Code → ℕ
-relaxedPicks c = (made c.k c.m c.seed).relaxed
+abbrev pub relaxed_picks : Code → ℕ
+relaxed_picks c = (made c.k c.m c.seed).relaxed

@@ -11,15 +11,15 @@ pub record Picks : Type 0 where
   pub rows : List ℕ
   pub relaxed : ℕ
 
-unfoldable pub onePick : ℕ → List (List ℕ) → Picks → Picks
-onePick m cs p =
+unfoldable pub one_pick : ℕ → List (List ℕ) → Picks → Picks
+one_pick m cs p =
     let s = draw p.state in
     let c = pick m cs p.rows s in
     record { state = s; rows = p.rows ++ (c.row ∷ []); relaxed = p.relaxed + c.relaxed }
 
 unfoldable pub picks : ℕ → ℕ → List (List ℕ) → ℕ → Picks
 picks zero m cs s = record { state = s; rows = []; relaxed = 0 }
-picks (suc t) m cs s = onePick m cs (picks t m cs s)
+picks (suc t) m cs s = one_pick m cs (picks t m cs s)
 
 pub record Made : Type 0 where
   pub state : ℕ
@@ -30,18 +30,18 @@ unfoldable pub finished : Made → Picks → Made
 finished g p = record { state = p.state; columns = sorted p.rows ∷ g.columns; relaxed = g.relaxed + p.relaxed }
 
 -- "Each message column makes three picks."
-unfoldable pub nextColumn : ℕ → Made → Made
-nextColumn m g = finished g (picks 3 m g.columns g.state)
+unfoldable pub next_column : ℕ → Made → Made
+next_column m g = finished g (picks 3 m g.columns g.state)
 
 -- k columns over m rows
 unfoldable pub made : ℕ → ℕ → ℕ → Made
 made zero m seed = record { state = seed; columns = []; relaxed = 0 }
-made (suc k) m seed = nextColumn m (made k m seed)
+made (suc k) m seed = next_column m (made k m seed)
 
 -- the columns in order, one after another
-unfoldable pub laidBefore : List (List ℕ) → List ℕ → List ℕ
-laidBefore [] l = l
-laidBefore (c ∷ cs) l = laidBefore cs (c ++ l)
+unfoldable pub laid_before : List (List ℕ) → List ℕ → List ℕ
+laid_before [] l = l
+laid_before (c ∷ cs) l = laid_before cs (c ++ l)
 
 unfoldable pub rows_of : ℕ → ℕ → ℕ → List ℕ
-rows_of k m seed = laidBefore (made k m seed).columns []
+rows_of k m seed = laid_before (made k m seed).columns []

@@ -11,19 +11,19 @@ unfoldable pub marked : List ℕ → List ℕ → List ℕ
 marked [] fs = fs
 marked (r ∷ rs) fs = marked rs (set fs r 1)
 
-unfoldable pub markedIf : Bool → List ℕ → List ℕ → List ℕ
-markedIf true c fs = marked c fs
-markedIf false c fs = fs
+unfoldable pub marked_if : Bool → List ℕ → List ℕ → List ℕ
+marked_if true c fs = marked c fs
+marked_if false c fs = fs
 
 -- 1 at each row that a column holds together with q
-unfoldable pub markedBy : List (List ℕ) → ℕ → List ℕ → List ℕ
-markedBy [] q fs = fs
-markedBy (c ∷ cs) q fs = markedBy cs q (markedIf (holds c q) c fs)
+unfoldable pub marked_by : List (List ℕ) → ℕ → List ℕ → List ℕ
+marked_by [] q fs = fs
+marked_by (c ∷ cs) q fs = marked_by cs q (marked_if (holds c q) c fs)
 
 -- the marks of a pick
-unfoldable pub marksOf : ℕ → List (List ℕ) → List ℕ → List ℕ
-marksOf m cs [] = replicate m 0
-marksOf m cs (q ∷ qs) = markedBy cs q (set (marksOf m cs qs) q 1)
+unfoldable pub marks_of : ℕ → List (List ℕ) → List ℕ → List ℕ
+marks_of m cs [] = replicate m 0
+marks_of m cs (q ∷ qs) = marked_by cs q (set (marks_of m cs qs) q 1)
 
 -- the least loaded so far, with its load
 pub data Best : Type 0 where
@@ -44,15 +44,15 @@ scan [] fs r b = b
 scan (l ∷ ls) [] r b = b
 scan (l ∷ ls) (f ∷ fs) r b = scan ls fs (suc r) (met f l r b)
 
-unfoldable pub foundIn : Best → Found
-foundIn none = nothing
-foundIn (best l r) = row r
+unfoldable pub found_in : Best → Found
+found_in none = nothing
+found_in (best l r) = row r
 
-unfoldable pub quickSearch : List ℕ → List ℕ → ℕ → Found
-quickSearch ls fs s = foundIn (scan (take s ls) (take s fs) 0 (scan (drop s ls) (drop s fs) s none))
+unfoldable pub quick_search : List ℕ → List ℕ → ℕ → Found
+quick_search ls fs s = found_in (scan (take s ls) (take s fs) 0 (scan (drop s ls) (drop s fs) s none))
 
-unfoldable pub quickPick : ℕ → List ℕ → List (List ℕ) → List ℕ → ℕ → Choice
-quickPick m ls cs picked s = settled m picked (s % m) (quickSearch ls (marksOf m cs picked) (s % m))
+unfoldable pub quick_pick : ℕ → List ℕ → List (List ℕ) → List ℕ → ℕ → Choice
+quick_pick m ls cs picked s = settled m picked (s % m) (quick_search ls (marks_of m cs picked) (s % m))
 
 -- one more at each of the rows
 unfoldable pub loaded : List ℕ → List ℕ → List ℕ
@@ -63,25 +63,25 @@ pub record Kept : Type 0 where
   pub loads : List ℕ
   pub so : Made
 
-unfoldable pub quickOnePick : ℕ → List ℕ → List (List ℕ) → Picks → Picks
-quickOnePick m ls cs p =
+unfoldable pub quick_one_pick : ℕ → List ℕ → List (List ℕ) → Picks → Picks
+quick_one_pick m ls cs p =
     let s = draw p.state in
-    let c = quickPick m ls cs p.rows s in
+    let c = quick_pick m ls cs p.rows s in
     record { state = s; rows = p.rows ++ (c.row ∷ []); relaxed = p.relaxed + c.relaxed }
 
-unfoldable pub quickPicks : ℕ → ℕ → List ℕ → List (List ℕ) → ℕ → Picks
-quickPicks zero m ls cs s = record { state = s; rows = []; relaxed = 0 }
-quickPicks (suc t) m ls cs s = quickOnePick m ls cs (quickPicks t m ls cs s)
+unfoldable pub quick_picks : ℕ → ℕ → List ℕ → List (List ℕ) → ℕ → Picks
+quick_picks zero m ls cs s = record { state = s; rows = []; relaxed = 0 }
+quick_picks (suc t) m ls cs s = quick_one_pick m ls cs (quick_picks t m ls cs s)
 
-unfoldable pub quickFinished : Kept → Picks → Kept
-quickFinished g p = record { loads = loaded p.rows g.loads; so = finished g.so p }
+unfoldable pub quick_finished : Kept → Picks → Kept
+quick_finished g p = record { loads = loaded p.rows g.loads; so = finished g.so p }
 
-unfoldable pub quickColumn : ℕ → Kept → Kept
-quickColumn m g = quickFinished g (quickPicks 3 m g.loads g.so.columns g.so.state)
+unfoldable pub quick_column : ℕ → Kept → Kept
+quick_column m g = quick_finished g (quick_picks 3 m g.loads g.so.columns g.so.state)
 
-unfoldable pub quickColumns : ℕ → ℕ → ℕ → Kept
-quickColumns zero m seed = record { loads = replicate m 0; so = record { state = seed; columns = []; relaxed = 0 } }
-quickColumns (suc k) m seed = quickColumn m (quickColumns k m seed)
+unfoldable pub quick_columns : ℕ → ℕ → ℕ → Kept
+quick_columns zero m seed = record { loads = replicate m 0; so = record { state = seed; columns = []; relaxed = 0 } }
+quick_columns (suc k) m seed = quick_column m (quick_columns k m seed)
 
 unfoldable pub quick : ℕ → ℕ → ℕ → Made
-quick k m seed = (quickColumns k m seed).so
+quick k m seed = (quick_columns k m seed).so

@@ -1,15 +1,15 @@
 -- The tables that the construction keeps, before the first column, after each and after the last.
 use Rattle.std.specs.Prelude.{List, ◌≡◌, ℕ, ◌*◌, ◌≤◌, ◌<◌, length, replicate}
-use Rattle.columns.specs.Tables.{columnsIn}
+use Rattle.columns.specs.Tables.{columns_in}
 use Rattle.placing.specs.Tables.{Finished}
 use Rattle.construction.specs.Columns.{picks, made, rows_of}
 
 -- column n is made: the generator's state goes through three picks
 pub record ColumnMade (m n state : ℕ) (rows : List ℕ) (state' relaxed : ℕ) (rows' loads' marks' : List ℕ) : Type 0 where
-  pub drawn : state' ≡ (picks 3 m (columnsIn rows n) state).state
-  pub relaxes : relaxed ≡ (picks 3 m (columnsIn rows n) state).relaxed
+  pub drawn : state' ≡ (picks 3 m (columns_in rows n) state).state
+  pub relaxes : relaxed ≡ (picks 3 m (columns_in rows n) state).relaxed
   pub at_most : relaxed ≤ 3
-  pub finished : Finished m n (picks 3 m (columnsIn rows n) state).rows rows rows' loads' marks'
+  pub finished : Finished m n (picks 3 m (columns_in rows n) state).rows rows rows' loads' marks'
 
 -- a table with room for k columns over m rows, before the first is made
 pub record Blank (m k : ℕ) (rows loads marks : List ℕ) : Type 0 where

@@ -1,6 +1,6 @@
 // The three staircase codes as types, each with its own N, K and M and its construction.
 ghost use Rattle.std.specs.Prelude.{◌≡◌};
-ghost use Rattle.construction.specs.Codes.{n512r12, n576r23, n512r34, messageRows, relaxedPicks};
+ghost use Rattle.construction.specs.Codes.{n512r12, n576r23, n512r34, message_rows, relaxed_picks};
 
 // The rows of 256 message columns, three a column, and how many picks were relaxed.
 #[derive(Drop)]
@@ -30,7 +30,7 @@ impl N512R12 {
     pub const SEED: u64 = 0x4C44_5043_3531_3200;
 
     pub fn construct() -> Columns256
-        ensures { (result.rows ≡ messageRows n512r12) × (result.relaxed ≡ relaxedPicks n512r12) }
+        ensures { (result.rows ≡ message_rows n512r12) × (result.relaxed ≡ relaxed_picks n512r12) }
     {
         let mut rows = [0u16; 768];
         let mut loads = [0u16; N512R12::M];
@@ -57,7 +57,7 @@ impl N576R23 {
     pub const SEED: u64 = 0x4C44_5043_3531_3201;
 
     pub fn construct() -> Columns384
-        ensures { (result.rows ≡ messageRows n576r23) × (result.relaxed ≡ relaxedPicks n576r23) }
+        ensures { (result.rows ≡ message_rows n576r23) × (result.relaxed ≡ relaxed_picks n576r23) }
     {
         let mut rows = [0u16; 1152];
         let mut loads = [0u16; N576R23::M];
@@ -84,7 +84,7 @@ impl N512R34 {
     pub const SEED: u64 = 0x4C44_5043_3531_3202;
 
     pub fn construct() -> Columns384
-        ensures { (result.rows ≡ messageRows n512r34) × (result.relaxed ≡ relaxedPicks n512r34) }
+        ensures { (result.rows ≡ message_rows n512r34) × (result.relaxed ≡ relaxed_picks n512r34) }
     {
         let mut rows = [0u16; 1152];
         let mut loads = [0u16; N512R34::M];

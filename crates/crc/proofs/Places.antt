@@ -8,16 +8,16 @@ use lib.Bits.{bit_and, bit_or, and_high, and_mask, or_shifted}
 use lib.ListN.{length, get_or, set, take, drop, replicate, length-append, take-append-drop, drop_of_length-le}
 use lib.Pow.{mod-mod-pow}
 use lib.Seq.{take-append-add, drop-append-add, get_or-append-add, get_or_at, drop-cons, length-take-le}
-use Rattle.bits.specs.Bits.{bits_of, bits, numberAfter, number, packed}
-use Rattle.crc.specs.Block.{payloadBits, blockChecksum, block, carried}
+use Rattle.bits.specs.Bits.{bits_of, bits, number_after, number, packed}
+use Rattle.crc.specs.Block.{payload_bits, block_checksum, block, carried}
 use Rattle.crc.specs.Bytes.{laid, stored}
 use Rattle.checksum.specs.Qex.{qex}
 use Rattle.checksum.specs.Register.{crc14, unused}
 use Rattle.checksum.proofs.Agreement.{register-qex}
-use Rattle.bits.proofs.AreBits.{areBits-append, areBits-take, zeros-are}
+use Rattle.bits.proofs.AreBits.{are_bits_append, are_bits_take, zeros_are}
 use Rattle.checksum.proofs.Division.{qex-lt}
-use Rattle.bits.proofs.Digits.{Bytes, bytes_take, bytes-append, bits_are, bits-length, bits-append}
-use Rattle.bits.proofs.Digits.{take-upper, bitsOf-split, number-bits, number_append, packed-bits}
+use Rattle.bits.proofs.Digits.{Bytes, bytes_take, bytes_append, bits_are, bits-length, bits_append}
+use Rattle.bits.proofs.Digits.{take-upper, bits_of-split, number-bits, number_append, packed-bits}
 
 -- the low three bits of a byte cleared
 cleared : (x : ℕ) → x < 256 → bit_and x 0xF8 ≡ x / 8 * 8
@@ -38,45 +38,45 @@ unfolding bits bits_of
 cleared-bits x h =
     let same : x / 8 * 8 / 2 ^ 3 ≡ x / 2 ^ 3 = omega arith in
     ap (λ (y : ℕ). bits_of 8 y ++ (0 ∷ 0 ∷ [])) (cleared x h)
-    ∙ ap (λ (l : List ℕ). l ++ (0 ∷ 0 ∷ [])) (bitsOf-split 5 3 (x / 8 * 8) ∙ ap₂ (λ (n : ℕ) (l : List ℕ). bits_of 5 n ++ l) same (low-zero (x / 8)))
+    ∙ ap (λ (l : List ℕ). l ++ (0 ∷ 0 ∷ [])) (bits_of-split 5 3 (x / 8 * 8) ∙ ap₂ (λ (n : ℕ) (l : List ℕ). bits_of 5 n ++ l) same (low-zero (x / 8)))
 
 -- the last three bytes of a block, byte 9 of the payload being x
-abbrev lastThree : ℕ → ℕ → List ℕ
-lastThree x c = (x / 8 * 8 + c / 2 ^ 11) ∷ (c / 2 ^ 3 % 256) ∷ (c % 8 * 32) ∷ []
+abbrev last_three : ℕ → ℕ → List ℕ
+last_three x c = (x / 8 * 8 + c / 2 ^ 11) ∷ (c / 2 ^ 3 % 256) ∷ (c % 8 * 32) ∷ []
 
-cut-tail : (a b d e : ℕ)
+cut_tail : (a b d e : ℕ)
     → packed 3 (bits_of 5 a ++ ((bits_of 3 b ++ (bits_of 8 d ++ bits_of 3 e)) ++ replicate 5 0)) ≡ number (bits_of 5 a ++ bits_of 3 b) ∷ number (bits_of 8 d)
     ∷ number (bits_of 3 e ++ replicate 5 0) ∷ []
-unfolding packed bits_of numberAfter
-cut-tail a b d e = refl
+unfolding packed bits_of number_after
+cut_tail a b d e = refl
 
-five-zeros : (n : ℕ) → numberAfter n (replicate 5 0) ≡ n * 32
-unfolding numberAfter
-five-zeros n = omega arith
+five_zeros : (n : ℕ) → number_after n (replicate 5 0) ≡ n * 32
+unfolding number_after
+five_zeros n = omega arith
 
-packed-tail : (x c : ℕ) → x < 256 → c < 2 ^ 14 → packed 3 (bits_of 5 (x / 2 ^ 3) ++ (bits_of 14 c ++ replicate 5 0)) ≡ lastThree x c
-packed-tail x c h k =
+packed_tail : (x c : ℕ) → x < 256 → c < 2 ^ 14 → packed 3 (bits_of 5 (x / 2 ^ 3) ++ (bits_of 14 c ++ replicate 5 0)) ≡ last_three x c
+packed_tail x c h k =
     let a = x / 2 ^ 3 in
     let b = c / 2 ^ 11 in
-    let split = bitsOf-split 3 11 c ∙ ap (λ (l : List ℕ). bits_of 3 b ++ l) (bitsOf-split 8 3 c) in
+    let split = bits_of-split 3 11 c ∙ ap (λ (l : List ℕ). bits_of 3 b ++ l) (bits_of-split 8 3 c) in
     let first : (0 * 2 ^ 5 + x / 2 ^ 3 % 2 ^ 5) * 2 ^ 3 + c / 2 ^ 11 % 2 ^ 3 ≡ x / 8 * 8 + c / 2 ^ 11 = omega arith in
     let second : 0 * 2 ^ 8 + c / 2 ^ 3 % 2 ^ 8 ≡ c / 2 ^ 3 % 256 = omega arith in
     let third : (0 * 2 ^ 3 + c % 2 ^ 3) * 32 ≡ c % 8 * 32 = omega arith in
     ap (λ (l : List ℕ). packed 3 (bits_of 5 a ++ (l ++ replicate 5 0))) split
-    ∙ cut-tail a b (c / 2 ^ 3) c
+    ∙ cut_tail a b (c / 2 ^ 3) c
     ∙ ap₂ (λ (n : ℕ) (l : List ℕ). n ∷ l)
     (number_append 0 (bits_of 5 a) (bits_of 3 b) ∙ number-bits 3 (number (bits_of 5 a)) b ∙ ap (λ (n : ℕ). n * 2 ^ 3 + b % 2 ^ 3) (number-bits 5 0 a) ∙ first)
     (ap₂ (λ (n m : ℕ). n ∷ m ∷ [])
     (number-bits 8 0 (c / 2 ^ 3) ∙ second)
-    (number_append 0 (bits_of 3 c) (replicate 5 0) ∙ five-zeros (number (bits_of 3 c)) ∙ ap (λ (n : ℕ). n * 32) (number-bits 3 0 c) ∙ third))
+    (number_append 0 (bits_of 3 c) (replicate 5 0) ∙ five_zeros (number (bits_of 3 c)) ∙ ap (λ (n : ℕ). n * 32) (number-bits 3 0 c) ∙ third))
 
-tail-cut : (u v w : ℕ) → take 14 (drop 5 (bits (u ∷ v ∷ w ∷ []))) ≡ bits_of 3 u ++ (bits_of 8 v ++ take 3 (bits_of 8 w))
+tail_cut : (u v w : ℕ) → take 14 (drop 5 (bits (u ∷ v ∷ w ∷ []))) ≡ bits_of 3 u ++ (bits_of 8 v ++ take 3 (bits_of 8 w))
 unfolding bits bits_of
-tail-cut u v w = refl
+tail_cut u v w = refl
 
-set-append-add : (xs ys : List ℕ) (n a : ℕ) → set (xs ++ ys) (length xs + n) a ≡ xs ++ set ys n a
-set-append-add [] ys n a = ap (λ (k : ℕ). set ys k a) (zero-add n)
-set-append-add (x ∷ xs) ys n a = ap (λ (k : ℕ). set (x ∷ (xs ++ ys)) k a) (suc-add (length xs) n) ∙ ap (λ (l : List ℕ). x ∷ l) (set-append-add xs ys n a)
+set_append_add : (xs ys : List ℕ) (n a : ℕ) → set (xs ++ ys) (length xs + n) a ≡ xs ++ set ys n a
+set_append_add [] ys n a = ap (λ (k : ℕ). set ys k a) (zero-add n)
+set_append_add (x ∷ xs) ys n a = ap (λ (k : ℕ). set (x ∷ (xs ++ ys)) k a) (suc-add (length xs) n) ∙ ap (λ (l : List ℕ). x ∷ l) (set_append_add xs ys n a)
 
 -- nine bytes t in front
 module _ (t : List ℕ) (nine : length t ≡ 9) where
@@ -89,17 +89,17 @@ module _ (t : List ℕ) (nine : length t ≡ 9) where
   drop_past : (n : ℕ) (ys : List ℕ) → drop (72 + n) (bits t ++ ys) ≡ drop n ys
   drop_past n ys = rw front-bits at (drop-append-add (bits t) ys n)
 
-  payload-bits : (x : ℕ) → payloadBits (t ++ x ∷ []) ≡ bits t ++ bits_of 5 (x / 2 ^ 3)
+  payload-bits : (x : ℕ) → payload_bits (t ++ x ∷ []) ≡ bits t ++ bits_of 5 (x / 2 ^ 3)
   unfolding bits bits_of
   payload-bits x =
-      ap (take 77) (bits-append t (x ∷ []))
+      ap (take 77) (bits_append t (x ∷ []))
       ∙ take_past 5 (bits (x ∷ []))
       ∙ ap (λ (l : List ℕ). bits t ++ l) (take-upper 5 3 x)
 
   -- the 82 bits of the block that has no checksum yet
-  laid-bits : (x : ℕ) → x < 256 → take 82 (bits (t ++ bit_and x 0xF8 ∷ 0 ∷ 0 ∷ [])) ≡ payloadBits (t ++ x ∷ []) ++ replicate 5 0
+  laid-bits : (x : ℕ) → x < 256 → take 82 (bits (t ++ bit_and x 0xF8 ∷ 0 ∷ 0 ∷ [])) ≡ payload_bits (t ++ x ∷ []) ++ replicate 5 0
   laid-bits x h =
-      ap (take 82) (bits-append t (bit_and x 0xF8 ∷ 0 ∷ 0 ∷ []))
+      ap (take 82) (bits_append t (bit_and x 0xF8 ∷ 0 ∷ 0 ∷ []))
       ∙ take_past 10 (bits (bit_and x 0xF8 ∷ 0 ∷ 0 ∷ []))
       ∙ ap (λ (l : List ℕ). bits t ++ l) (cleared-bits x h)
       ∙ sym (append_assoc (bits t) (bits_of 5 (x / 2 ^ 3)) (replicate 5 0))
@@ -107,19 +107,19 @@ module _ (t : List ℕ) (nine : length t ≡ 9) where
 
   -- the bytes of 77 bits, 14 bits of c, and zeros
   packed-block : (x c : ℕ) → x < 256 → c < 2 ^ 14 → Bytes t
-      → packed 12 (payloadBits (t ++ x ∷ []) ++ (bits_of 14 c ++ replicate 5 0)) ≡ t ++ lastThree x c
+      → packed 12 (payload_bits (t ++ x ∷ []) ++ (bits_of 14 c ++ replicate 5 0)) ≡ t ++ last_three x c
   packed-block x c h k bytes =
       ap (λ (l : List ℕ). packed 12 (l ++ (bits_of 14 c ++ replicate 5 0))) (payload-bits x)
       ∙ ap (packed 12) (append_assoc (bits t) (bits_of 5 (x / 2 ^ 3)) (bits_of 14 c ++ replicate 5 0))
       ∙ rw nine at (packed-bits t (bits_of 5 (x / 2 ^ 3) ++ (bits_of 14 c ++ replicate 5 0)) 3 bytes)
-      ∙ ap (λ (l : List ℕ). t ++ l) (packed-tail x c h k)
+      ∙ ap (λ (l : List ℕ). t ++ l) (packed_tail x c h k)
 
   set_past : (n a : ℕ) (ys : List ℕ) → set (t ++ ys) (9 + n) a ≡ t ++ set ys n a
-  set_past n a ys = rw nine at (set-append-add t ys n a)
+  set_past n a ys = rw nine at (set_append_add t ys n a)
 
   -- the same bytes, stored one by one
   stored_bytes : (x c : ℕ) → x < 256 → c < 2 ^ 14
-      → stored (t ++ bit_and x 0xF8 ∷ 0 ∷ 0 ∷ []) c ≡ t ++ lastThree x c
+      → stored (t ++ bit_and x 0xF8 ∷ 0 ∷ 0 ∷ []) c ≡ t ++ last_three x c
   stored_bytes x c h k =
       let y = bit_and x 0xF8 in
       let first : bit_or (get_or (t ++ y ∷ 0 ∷ 0 ∷ []) 9 0) (c / 2 ^ 11) ≡ x / 8 * 8 + c / 2 ^ 11 =
@@ -136,12 +136,12 @@ module _ (t : List ℕ) (nine : length t ≡ 9) where
   unfolding carried
   carried-bytes u v w hv hw =
       let sums : ((0 * 2 ^ 3 + u % 2 ^ 3) * 2 ^ 8 + v % 2 ^ 8) * 2 ^ 3 + w / 2 ^ 5 % 2 ^ 3 ≡ u % 8 * 2048 + v * 8 + w / 32 = omega arith in
-      ap (λ (l : List ℕ). number (take 14 (drop 77 l))) (bits-append t (u ∷ v ∷ w ∷ []))
+      ap (λ (l : List ℕ). number (take 14 (drop 77 l))) (bits_append t (u ∷ v ∷ w ∷ []))
       ∙ ap (λ (l : List ℕ). number (take 14 l)) (drop_past 5 (bits (u ∷ v ∷ w ∷ [])))
-      ∙ ap number (tail-cut u v w ∙ ap (λ (l : List ℕ). bits_of 3 u ++ (bits_of 8 v ++ l)) (take-upper 3 5 w))
+      ∙ ap number (tail_cut u v w ∙ ap (λ (l : List ℕ). bits_of 3 u ++ (bits_of 8 v ++ l)) (take-upper 3 5 w))
       ∙ number_append 0 (bits_of 3 u) (bits_of 8 v ++ bits_of 3 (w / 2 ^ 5))
       ∙ number_append (number (bits_of 3 u)) (bits_of 8 v) (bits_of 3 (w / 2 ^ 5))
-      ∙ number-bits 3 (numberAfter (number (bits_of 3 u)) (bits_of 8 v)) (w / 2 ^ 5)
+      ∙ number-bits 3 (number_after (number (bits_of 3 u)) (bits_of 8 v)) (w / 2 ^ 5)
       ∙ ap (λ (n : ℕ). n * 2 ^ 3 + w / 2 ^ 5 % 2 ^ 3) (number-bits 8 (number (bits_of 3 u)) v ∙ ap (λ (n : ℕ). n * 2 ^ 8 + v % 2 ^ 8) (number-bits 3 0 u))
       ∙ sums
 
@@ -151,15 +151,15 @@ ten p e =
     sym (take-append-drop 9 p)
     ∙ ap (λ (l : List ℕ). take 9 p ++ l) (drop-cons p 9 0 (omega arith) ∙ ap (λ (l : List ℕ). get_or p 9 0 ∷ l) (drop_of_length-le p {i = 10} (omega arith)))
 
-drop-nine : (a : List ℕ) → length a ≡ 12 → drop 9 a ≡ get_or a 9 0 ∷ get_or a 10 0 ∷ get_or a 11 0 ∷ []
-drop-nine a e =
+drop_nine : (a : List ℕ) → length a ≡ 12 → drop 9 a ≡ get_or a 9 0 ∷ get_or a 10 0 ∷ get_or a 11 0 ∷ []
+drop_nine a e =
     drop-cons a 9 0 (omega arith)
     ∙ ap (λ (l : List ℕ). get_or a 9 0 ∷ l)
     (drop-cons a 10 0 (omega arith)
     ∙ ap (λ (l : List ℕ). get_or a 10 0 ∷ l) (drop-cons a 11 0 (omega arith) ∙ ap (λ (l : List ℕ). get_or a 11 0 ∷ l) (drop_of_length-le a {i = 12} (omega arith))))
 
 twelve : (a : List ℕ) → length a ≡ 12 → a ≡ take 9 a ++ get_or a 9 0 ∷ get_or a 10 0 ∷ get_or a 11 0 ∷ []
-twelve a e = sym (take-append-drop 9 a) ∙ ap (λ (l : List ℕ). take 9 a ++ l) (drop-nine a e)
+twelve a e = sym (take-append-drop 9 a) ∙ ap (λ (l : List ℕ). take 9 a ++ l) (drop_nine a e)
 
 -- the payload laid into a block, byte by byte
 pub laid-set : (p a l : List ℕ) → length p ≡ 10 → length a ≡ 12 → l ≡ take 9 p ++ drop 9 a → set (set (set l 9 (bit_and (get_or p 9 0) 0xF8)) 10 0) 11 0 ≡ laid p
@@ -168,7 +168,7 @@ laid-set p a l ep ea e =
     let t = take 9 p in
     let y = bit_and (get_or p 9 0) 0xF8 in
     let nine = length-take-le 9 p (omega arith) in
-    ap (λ (x : List ℕ). set (set (set x 9 y) 10 0) 11 0) (e ∙ ap (λ (x : List ℕ). t ++ x) (drop-nine a ea))
+    ap (λ (x : List ℕ). set (set (set x 9 y) 10 0) 11 0) (e ∙ ap (λ (x : List ℕ). t ++ x) (drop_nine a ea))
     ∙ ap (λ (x : List ℕ). set (set x 10 0) 11 0) (set_past t nine 0 y (get_or a 9 0 ∷ get_or a 10 0 ∷ get_or a 11 0 ∷ []))
     ∙ ap (λ (x : List ℕ). set x 11 0) (set_past t nine 1 0 (y ∷ get_or a 10 0 ∷ get_or a 11 0 ∷ []))
     ∙ set_past t nine 2 0 (y ∷ 0 ∷ get_or a 11 0 ∷ [])
@@ -184,7 +184,7 @@ module _ (p : List ℕ) (size : length p ≡ 10) (bytes : Bytes p) where
   tail-bytes (suc (suc (suc i))) = omega arith
 
   -- the register's checksum of the block without one is the checksum of the definition
-  pub laid-checksum : crc14 (laid p) 82 ≡ blockChecksum p
+  pub laid-checksum : crc14 (laid p) 82 ≡ block_checksum p
   unfolding laid unused
   laid-checksum =
       let t = take 9 p in
@@ -192,25 +192,25 @@ module _ (p : List ℕ) (size : length p ≡ 10) (bytes : Bytes p) where
       let tail = bit_and x 0xF8 ∷ 0 ∷ 0 ∷ [] in
       let unused-zero : unused (t ++ tail) 82 ≡ 0 = ap (λ (n : ℕ). n % 2 ^ 6) (rw front at (get_or-append-add t tail 1 0)) in
       let long : 82 ≤ 8 * length (t ++ tail) = omega (arith, length-append t tail, front) in
-      register-qex (t ++ tail) 82 (bytes-append t tail (bytes_take 9 p bytes) tail-bytes) long unused-zero
+      register-qex (t ++ tail) 82 (bytes_append t tail (bytes_take 9 p bytes) tail-bytes) long unused-zero
       ∙ ap qex (laid-bits t front x (bytes 9))
-      ∙ ap blockChecksum (sym (ten p size))
+      ∙ ap block_checksum (sym (ten p size))
 
-  pub block-stored : stored (laid p) (blockChecksum p) ≡ block p
+  pub block-stored : stored (laid p) (block_checksum p) ≡ block p
   unfolding laid block
   block-stored =
       let t = take 9 p in
       let x = get_or p 9 0 in
-      let c = blockChecksum p in
-      let small : c < 2 ^ 14 = qex-lt (areBits-append (areBits-take 77 (bits_are p)) (zeros-are 5)) in
+      let c = block_checksum p in
+      let small : c < 2 ^ 14 = qex-lt (are_bits_append (are_bits_take 77 (bits_are p)) (zeros_are 5)) in
       stored_bytes t front x c (bytes 9) small
       ∙ sym (packed-block t front x c (bytes 9) small (bytes_take 9 p bytes))
-      ∙ ap (λ (l : List ℕ). packed 12 (payloadBits l ++ (bits_of 14 c ++ replicate 5 0))) (sym (ten p size))
+      ∙ ap (λ (l : List ℕ). packed 12 (payload_bits l ++ (bits_of 14 c ++ replicate 5 0))) (sym (ten p size))
 
 -- the checksum read back, in the operations of the code
-pub carried-read : (a : List ℕ) → length a ≡ 12 → Bytes a
+pub carried_read : (a : List ℕ) → length a ≡ 12 → Bytes a
     → bit_or (bit_or (bit_and (get_or a 9 0) 7 * 2 ^ 11 % 2 ^ 16) (get_or a 10 0 * 2 ^ 3 % 2 ^ 16)) (get_or a 11 0 / 2 ^ 5) ≡ carried a
-carried-read a size bytes =
+carried_read a size bytes =
     let u = get_or a 9 0 in
     let v = get_or a 10 0 in
     let w = get_or a 11 0 in

@@ -1,16 +1,16 @@
 // The calls of the FT8 checksum (CRC-14): taken of bits, appended to a payload, and read back from a block.
 ghost use Rattle.std.specs.Prelude.{◌≡◌, ◌++◌, ◌^◌, ◌≤◌, ◌<◌, length, take, drop};
 ghost use Rattle.refusal.specs.Outcome.{judged, kept};
-ghost use Rattle.refusal.specs.Answers.{answer_of, statusOf};
+ghost use Rattle.refusal.specs.Answers.{answer_of, status_of};
 ghost use Rattle.checksum.specs.Register.{crc14};
 ghost use Rattle.crc.specs.Block.{block, carried};
 ghost use Rattle.crc.specs.Bytes.{laid, stored};
-ghost use Rattle.crc.specs.Calls.{crc14Refusals, addRefusals, extractRefusals};
+ghost use Rattle.crc.specs.Calls.{crc14_refusals, add_refusals, extract_refusals};
 
 use refusal::{Answer, Refusal, Status};
 
 pub fn ft8_crc14(message: &[u8], num_bits: usize) -> Answer
-    ensures { answer_of result ≡ judged (crc14Refusals message.now num_bits) (crc14 message.now num_bits) }
+    ensures { answer_of result ≡ judged (crc14_refusals message.now num_bits) (crc14 message.now num_bits) }
 {
     if message.len() < bits::bytes_for(num_bits) {
         return Answer::Refused(Refusal::InputLength);
@@ -52,8 +52,8 @@ fn store_checksum(a91: &mut [u8], checksum: u16)
 }
 
 pub fn ft8_add_crc(payload: &[u8], a91: &mut [u8]) -> Status
-    ensures result_value { statusOf result ≡ judged (addRefusals payload.now a91.old) tt }
-    ensures a91_after { a91.new ≡ kept (addRefusals payload.now a91.old) a91.old (block payload.now) }
+    ensures result_value { status_of result ≡ judged (add_refusals payload.now a91.old) tt }
+    ensures a91_after { a91.new ≡ kept (add_refusals payload.now a91.old) a91.old (block payload.now) }
 {
     if payload.len() != 10 {
         return Status::Refused(Refusal::InputLength);
@@ -68,7 +68,7 @@ pub fn ft8_add_crc(payload: &[u8], a91: &mut [u8]) -> Status
 }
 
 pub fn ft8_extract_crc(a91: &[u8]) -> Answer
-    ensures { answer_of result ≡ judged (extractRefusals a91.now) (carried a91.now) }
+    ensures { answer_of result ≡ judged (extract_refusals a91.now) (carried a91.now) }
 {
     if a91.len() != 12 {
         return Answer::Refused(Refusal::InputLength);

@@ -2,10 +2,10 @@
 use Rattle.std.specs.Prelude.{◌≡◌, cond, List, ℕ, ◌*◌, ltb, take}
 use Rattle.refusal.specs.Outcome.{Outcome, accepted, refused}
 use Rattle.refusal.specs.Numbers.{number_of}
-use Rattle.batch.specs.Codes.{sizeK}
+use Rattle.batch.specs.Codes.{size_k}
 use Rattle.batch.specs.Calls.{written}
-use Rattle.batch_input.specs.Input.{code_of, pairCount}
-use Rattle.batch_input.specs.Handed.{batchIn}
+use Rattle.batch_input.specs.Input.{code_of, pair_count}
+use Rattle.batch_input.specs.Handed.{batch_in}
 use Rattle.decoded_input.specs.declared.Decoded.{Decoded}
 use Rattle.decoded_input.specs.declared.Decoded.TheVariants.{Frames, Refused}
 
@@ -18,16 +18,16 @@ pub record Sizes : Type 0 where
   pub frames : ℕ
   pub bits : ℕ
 
-abbrev pub sizesOf : List ℕ → Sizes
-sizesOf s = record { frames = pairCount s; bits = pairCount s * sizeK (code_of s) }
+abbrev pub sizes_of : List ℕ → Sizes
+sizes_of s = record { frames = pair_count s; bits = pair_count s * size_k (code_of s) }
 
-abbrev pub decodedOf : Decoded → Outcome Sizes
-decodedOf (Frames n bits) = accepted (record { frames = n; bits = bits })
-decodedOf (Refused r) = refused (number_of r)
+abbrev pub decoded_of : Decoded → Outcome Sizes
+decoded_of (Frames n bits) = accepted (record { frames = n; bits = bits })
+decoded_of (Refused r) = refused (number_of r)
 
 -- what it writes: K bits and a number of each kind a frame
 pub record Fronts (s bits counts rounds firsts : List ℕ) : Type 0 where
-  pub itsBits : take (pairCount s * sizeK (code_of s)) bits ≡ (written (batchIn s)).bits
-  pub itsCounts : take (pairCount s) counts ≡ (written (batchIn s)).counts
-  pub itsRounds : take (pairCount s) rounds ≡ (written (batchIn s)).rounds
-  pub itsFirsts : take (pairCount s) firsts ≡ (written (batchIn s)).firsts
+  pub its_bits : take (pair_count s * size_k (code_of s)) bits ≡ (written (batch_in s)).bits
+  pub its_counts : take (pair_count s) counts ≡ (written (batch_in s)).counts
+  pub its_rounds : take (pair_count s) rounds ≡ (written (batch_in s)).rounds
+  pub its_firsts : take (pair_count s) firsts ≡ (written (batch_in s)).firsts

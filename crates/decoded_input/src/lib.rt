@@ -1,12 +1,12 @@
 // The batch of a program's input, decoded into lent arrays.
 ghost use Rattle.std.specs.Prelude.{◌≡◌, false, ◌≤◌, length, take};
 ghost use Rattle.refusal.specs.Outcome.{accepted, judged};
-ghost use Rattle.refusal.specs.Answers.{statusOf};
-ghost use Rattle.batch.specs.Pairs.{pairsOf};
+ghost use Rattle.refusal.specs.Answers.{status_of};
+ghost use Rattle.batch.specs.Pairs.{pairs_of};
 ghost use Rattle.batch.specs.Calls.{lent, batch, refusals, Answered};
-ghost use Rattle.batch_input.specs.Input.{code_of, ruleOf, limitOf, scale_of, pairNumbers, values_of, malformed};
-ghost use Rattle.batch_input.specs.Handed.{batchIn};
-ghost use Rattle.decoded_input.specs.Fronts.{held, sizesOf, decodedOf, Fronts};
+ghost use Rattle.batch_input.specs.Input.{code_of, rule_of, limit_of, scale_of, pair_numbers, values_of, malformed};
+ghost use Rattle.batch_input.specs.Handed.{batch_in};
+ghost use Rattle.decoded_input.specs.Fronts.{held, sizes_of, decoded_of, Fronts};
 
 use refusal::{Refusal, Status};
 use work_area::WORK;
@@ -45,10 +45,10 @@ fn decode_input(
 ) -> Status
     requires { 12 ≤ length input.now }
     ensures { Answered
-        (batch (code_of input.now) (ruleOf input.now) (limitOf input.now) (scale_of input.now)
-        values.now (pairsOf pairs.now)
+        (batch (code_of input.now) (rule_of input.now) (limit_of input.now) (scale_of input.now)
+        values.now (pairs_of pairs.now)
         (lent bits.old counts.old rounds.old firsts.old work.old))
-        (statusOf result)
+        (status_of result)
         (lent bits.new counts.new rounds.new firsts.new work.new) }
 {
     let head = batch_input::read_header(input);
@@ -76,11 +76,11 @@ pub fn decode_fronts(
     firsts: &mut [u16],
 ) -> Decoded
     requires input_value { malformed input.now ≡ false }
-    requires values_value { (values.now ≡ values_of input.now) × (pairs.now ≡ take 50 (pairNumbers input.now)) }
+    requires values_value { (values.now ≡ values_of input.now) × (pairs.now ≡ take 50 (pair_numbers input.now)) }
     requires in_bounds { (9216 ≤ length bits.old) × (24 ≤ length counts.old) }
     requires in_bounds_2 { (24 ≤ length rounds.old) × (24 ≤ length firsts.old) }
-    ensures result_value { decodedOf result ≡ judged (refusals (batchIn input.now)) (sizesOf input.now) }
-    ensures fronts { decodedOf result ≡ accepted (sizesOf input.now) →
+    ensures result_value { decoded_of result ≡ judged (refusals (batch_in input.now)) (sizes_of input.now) }
+    ensures fronts { decoded_of result ≡ accepted (sizes_of input.now) →
         Fronts input.now bits.new counts.new rounds.new firsts.new }
 {
     let n = frames_held(batch_input::pair_count(input));

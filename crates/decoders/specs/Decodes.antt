@@ -8,9 +8,9 @@ use Rattle.code174.specs.Code174 as code174
 use Rattle.one_round.specs.Round.{Decode}
 
 -- a staircase code's decode
-abbrev pub staircaseDecode : Code → DecodeRule → List Float → Decode
-staircaseDecode c rule llr = record { checks = staircase.checks c; rule = rule; kind = Total; llr = llr }
+abbrev pub staircase_decode : Code → DecodeRule → List Float → Decode
+staircase_decode c rule llr = record { checks = staircase.checks c; rule = rule; kind = Total; llr = llr }
 
 -- (174,91)'s, "over the same tables, with code 3's own sums" by either rule
-abbrev pub ft8Decode : DecodeRule → List Float → Decode
-ft8Decode rule llr = record { checks = code174.checks; rule = rule; kind = Others; llr = llr }
+abbrev pub ft8_decode : DecodeRule → List Float → Decode
+ft8_decode rule llr = record { checks = code174.checks; rule = rule; kind = Others; llr = llr }

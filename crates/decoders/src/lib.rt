@@ -1,5 +1,5 @@
 // The soft decoders of the staircase codes and of (174,91): the round loop of `belief` at each code's number.
-ghost use Rattle.decoders.specs.Calls.{decodingOf, Answered, softWith, soft, ft8Soft};
+ghost use Rattle.decoders.specs.Calls.{decoding_of, Answered, soft_with, soft, ft8_soft};
 
 use refusal::Refusal;
 use rounds::Decoded;
@@ -22,8 +22,8 @@ pub fn decode_soft_with(
     bits: &mut [u8],
     work: &mut [f32],
 ) -> Decoding
-    ensures { Answered (softWith code rule scale limit llr.now bits.old work.old)
-        (decodingOf result) bits.new work.new }
+    ensures { Answered (soft_with code rule scale limit llr.now bits.old work.old)
+        (decoding_of result) bits.new work.new }
 {
     if code >= 3 {
         return Decoding::Refused(Refusal::UnknownCode);
@@ -62,15 +62,15 @@ pub fn decode_soft(
     work: &mut [f32],
 ) -> Decoding
     ensures { Answered (soft code limit llr.now bits.old work.old)
-        (decodingOf result) bits.new work.new }
+        (decoding_of result) bits.new work.new }
 {
     decode_soft_with(code, 0, 0.0, limit, llr, bits, work)
 }
 
 // A (174,91) decode by its own check step, all 174 bits.
 pub fn ldpc_decode_soft(llr: &[f32], limit: u16, plain: &mut [u8], work: &mut [f32]) -> Decoding
-    ensures { Answered (ft8Soft llr.now limit plain.old work.old)
-        (decodingOf result) plain.new work.new }
+    ensures { Answered (ft8_soft llr.now limit plain.old work.old)
+        (decoding_of result) plain.new work.new }
 {
     if llr.len() != ldpc::N {
         return Decoding::Refused(Refusal::InputLength);

@@ -5,7 +5,7 @@ use Rattle.refusal.specs.Outcome.{Outcome}
 use Rattle.coded_figures.specs.Figures.{Writes}
 
 -- z is what was stored, and n what is read back of it
-pub writes-told : {A : Type 0} {answer outcome : Outcome A} {z n : ℤ} {before after : A} → answer ≡ outcome → Writes answer z before after → n ≡ z
+pub writes_told : {A : Type 0} {answer outcome : Outcome A} {z n : ℤ} {before after : A} → answer ≡ outcome → Writes answer z before after → n ≡ z
     → Writes outcome n before after
-writes-told {A} {answer} {outcome} {z} {n} {before} {after} same w read =
+writes_told {A} {answer} {outcome} {z} {n} {before} {after} same w read =
     subst (λ (o : Outcome A). Writes o n before after) same (record { says = read ∙ w.says; leaves = w.leaves })

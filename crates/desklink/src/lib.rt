@@ -6,24 +6,24 @@ ghost use Rattle.refusal.specs.Outcome.{judged, kept};
 ghost use Rattle.checksum.specs.Register.{crc14};
 ghost use Rattle.crc.specs.Block.{block, carried};
 ghost use Rattle.crc.specs.Calls as crc·calls;
-ghost use Rattle.rules.specs.Rules.{asStored};
-ghost use Rattle.tanner.specs.Checks.{syndromeOfBytes};
+ghost use Rattle.rules.specs.Rules.{as_stored};
+ghost use Rattle.tanner.specs.Checks.{syndrome_of_bytes};
 ghost use Rattle.ldpc.specs.Calls as ldpc·calls;
 ghost use Rattle.code174.specs.Code174.{checks};
 ghost use Rattle.ldpc_encoding.specs.Calls as encoding·calls;
-ghost use Rattle.ldpc_encoding.specs.Encoding.{codewordOf};
+ghost use Rattle.ldpc_encoding.specs.Encoding.{codeword_of};
 ghost use Rattle.ldpc_codes.specs.Calls as staircase·calls;
 ghost use Rattle.decoders.specs.Calls as decoders·calls;
-ghost use Rattle.batch.specs.Pairs.{pairsOf};
+ghost use Rattle.batch.specs.Pairs.{pairs_of};
 ghost use Rattle.batch.specs.Calls as batch·calls;
 ghost use Rattle.record_check.specs.Fields as records·fields;
-ghost use Rattle.eighths.specs.Calls.{bytesRefusals, valuesRefusals, values_of, bytes_of};
-ghost use Rattle.filling.specs.Filling.{filledWord, filledPlaces, listed};
-ghost use Rattle.numbered.specs.Codes.{checksBy};
-ghost use Rattle.erasure.specs.Calls.{erasureRefusals};
-ghost use Rattle.cycles.specs.Calls.{cycleRefusals, reportBy, written_by};
-ghost use Rattle.packing.specs.Packing.{packedWord, unpackedWord, packRefusals, unpackRefusals};
-ghost use Rattle.clean_frames.specs.Calls.{frameRefusals, cleanNumber};
+ghost use Rattle.eighths.specs.Calls.{bytes_refusals, values_refusals, values_of, bytes_of};
+ghost use Rattle.filling.specs.Filling.{filled_word, filled_places, listed};
+ghost use Rattle.numbered.specs.Codes.{checks_by};
+ghost use Rattle.erasure.specs.Calls.{erasure_refusals};
+ghost use Rattle.cycles.specs.Calls.{cycle_refusals, report_by, written_by};
+ghost use Rattle.packing.specs.Packing.{packed_word, unpacked_word, pack_refusals, unpack_refusals};
+ghost use Rattle.clean_frames.specs.Calls.{frame_refusals, clean_number};
 ghost use Rattle.reason.specs.Calls as reason·calls;
 ghost use Rattle.coded.specs.Coded.{coded, coded_unit, lent};
 ghost use Rattle.coded_parts.specs.Parts.{Counts, Lists};
@@ -35,23 +35,23 @@ use record_check::Pair;
 
 #[unsafe(no_mangle)]
 pub extern "C" fn desklink_ft8_crc14(message: &[u8], num_bits: usize) -> i32
-    ensures { result ≡ coded (judged (crc·calls.crc14Refusals message.now num_bits) (crc14 message.now num_bits)) }
+    ensures { result ≡ coded (judged (crc·calls.crc14_refusals message.now num_bits) (crc14 message.now num_bits)) }
 {
     coded::answer_code(crc::ft8_crc14(message, num_bits))
 }
 
 #[unsafe(no_mangle)]
 pub extern "C" fn desklink_ft8_add_crc(payload: &[u8], a91: &mut [u8]) -> i32
-    ensures value { result ≡ coded_unit (judged (crc·calls.addRefusals payload.now a91.old) tt) }
+    ensures value { result ≡ coded_unit (judged (crc·calls.add_refusals payload.now a91.old) tt) }
     ensures a91_after { a91.new
-        ≡ kept (crc·calls.addRefusals payload.now a91.old) a91.old (block payload.now) }
+        ≡ kept (crc·calls.add_refusals payload.now a91.old) a91.old (block payload.now) }
 {
     coded::status_code(crc::ft8_add_crc(payload, a91))
 }
 
 #[unsafe(no_mangle)]
 pub extern "C" fn desklink_ft8_extract_crc(a91: &[u8]) -> i32
-    ensures { result ≡ coded (judged (crc·calls.extractRefusals a91.now) (carried a91.now)) }
+    ensures { result ≡ coded (judged (crc·calls.extract_refusals a91.now) (carried a91.now)) }
 {
     coded::answer_code(crc::ft8_extract_crc(a91))
 }
@@ -60,9 +60,9 @@ pub extern "C" fn desklink_ft8_extract_crc(a91: &[u8]) -> i32
 
 #[unsafe(no_mangle)]
 pub extern "C" fn desklink_ldpc_encode(message: &[u8], codeword: &mut [u8]) -> i32
-    ensures value { result ≡ coded_unit (judged (encoding·calls.encodeRefusals message.now codeword.old) tt) }
+    ensures value { result ≡ coded_unit (judged (encoding·calls.encode_refusals message.now codeword.old) tt) }
     ensures codeword_after { codeword.new
-        ≡ kept (encoding·calls.encodeRefusals message.now codeword.old) codeword.old (codewordOf message.now) }
+        ≡ kept (encoding·calls.encode_refusals message.now codeword.old) codeword.old (codeword_of message.now) }
 {
     coded::status_code(ldpc_encoding::ldpc_encode(message, codeword))
 }
@@ -70,7 +70,7 @@ pub extern "C" fn desklink_ldpc_encode(message: &[u8], codeword: &mut [u8]) -> i
 // `first` gets the lowest check that the count includes, or 65535.
 #[unsafe(no_mangle)]
 pub extern "C" fn desklink_ldpc_count_errors(hard: &[u8], first: &mut u16) -> i32
-    ensures { Counts (judged (ldpc·calls.countRefusals hard.now) (syndromeOfBytes checks hard.now))
+    ensures { Counts (judged (ldpc·calls.count_refusals hard.now) (syndrome_of_bytes checks hard.now))
         result (lent first.old first.new) }
 {
     coded_parts::counting_code(ldpc::ldpc_count_errors(hard), first)
@@ -85,7 +85,7 @@ pub extern "C" fn desklink_ldpc_decode_soft_unguarded(
     first: &mut u16,
     work: &mut [f32],
 ) -> i32
-    ensures { DecodeCall (decoders·calls.ft8Soft llr.now limit plain.old work.old)
+    ensures { DecodeCall (decoders·calls.ft8_soft llr.now limit plain.old work.old)
         result (lent rounds.old rounds.new) (lent first.old first.new) plain.new work.new }
 {
     coded_parts::decoding_code(
@@ -99,17 +99,17 @@ pub extern "C" fn desklink_ldpc_decode_soft_unguarded(
 
 #[unsafe(no_mangle)]
 pub extern "C" fn desklink_encode(code: u32, message: &[u8], codeword: &mut [u8]) -> i32
-    ensures value { result ≡ coded_unit (judged (staircase·calls.encodeRefusals code message.now codeword.old) tt) }
+    ensures value { result ≡ coded_unit (judged (staircase·calls.encode_refusals code message.now codeword.old) tt) }
     ensures codeword_after { codeword.new
-        ≡ kept (staircase·calls.encodeRefusals code message.now codeword.old) codeword.old
-        (staircase·calls.encodedBy code message.now) }
+        ≡ kept (staircase·calls.encode_refusals code message.now codeword.old) codeword.old
+        (staircase·calls.encoded_by code message.now) }
 {
     coded::status_code(ldpc_codes::encode(code, message, codeword))
 }
 
 #[unsafe(no_mangle)]
 pub extern "C" fn desklink_syndrome_weight(code: u32, hard: &[u8], first: &mut u16) -> i32
-    ensures { Counts (judged (staircase·calls.weightRefusals code hard.now) (staircase·calls.syndromeBy code hard.now))
+    ensures { Counts (judged (staircase·calls.weight_refusals code hard.now) (staircase·calls.syndrome_by code hard.now))
         result (lent first.old first.new) }
 {
     coded_parts::counting_code(ldpc_codes::syndrome_weight(code, hard), first)
@@ -147,7 +147,7 @@ pub extern "C" fn desklink_decode_soft_with_unguarded(
     first: &mut u16,
     work: &mut [f32],
 ) -> i32
-    ensures { DecodeCall (decoders·calls.softWith code rule scale limit llr.now bits.old work.old)
+    ensures { DecodeCall (decoders·calls.soft_with code rule scale limit llr.now bits.old work.old)
         result (lent rounds.old rounds.new) (lent first.old first.new) bits.new work.new }
 {
     coded_parts::decoding_code(
@@ -174,7 +174,7 @@ pub extern "C" fn desklink_decode_batch_unguarded(
     work: &mut [f32],
 ) -> i32
     ensures { BatchCall
-        (batch·calls.batch code rule limit scale values.now (pairsOf pairs.now)
+        (batch·calls.batch code rule limit scale values.now (pairs_of pairs.now)
         (batch·calls.lent bits.old counts.old rounds.old firsts.old work.old))
         result
         (batch·calls.lent bits.new counts.new rounds.new firsts.new work.new) }
@@ -200,7 +200,7 @@ pub extern "C" fn desklink_decode_pairs_unguarded(
     work: &mut [f32],
 ) -> i32
     ensures { BatchCall
-        (batch·calls.batch code rule limit scale values.now (records·fields.pairsOf pairs.now)
+        (batch·calls.batch code rule limit scale values.now (records·fields.pairs_of pairs.now)
         (batch·calls.lent bits.old counts.old rounds.old firsts.old work.old))
         result
         (batch·calls.lent bits.new counts.new rounds.new firsts.new work.new) }
@@ -226,7 +226,7 @@ pub extern "C" fn desklink_decode_stored_batch_unguarded(
     work: &mut [f32],
 ) -> i32
     ensures { BatchCall
-        (batch·calls.batch code (asStored rule) limit scale values.now (pairsOf pairs.now)
+        (batch·calls.batch code (as_stored rule) limit scale values.now (pairs_of pairs.now)
         (batch·calls.lent bits.old counts.old rounds.old firsts.old work.old))
         result
         (batch·calls.lent bits.new counts.new rounds.new firsts.new work.new) }
@@ -255,7 +255,7 @@ pub extern "C" fn desklink_decode_groups_unguarded(
     work: &mut [f32],
 ) -> i32
     ensures { GroupsCall
-        (batch·calls.batch code rule limit scale values.now (pairsOf pairs.now)
+        (batch·calls.batch code rule limit scale values.now (pairs_of pairs.now)
         (batch·calls.lent bits.old counts.old rounds.old firsts.old work.old))
         sizes.now
         result
@@ -277,8 +277,8 @@ pub extern "C" fn desklink_frame_clean_unguarded(
     bits: &[u8],
 ) -> i32
     ensures { result
-        ≡ coded (judged (frameRefusals code values.now bits.now)
-        (cleanNumber code values.now count bits.now)) }
+        ≡ coded (judged (frame_refusals code values.now bits.now)
+        (clean_number code values.now count bits.now)) }
 {
     coded::answer_code(clean_frames::frame_clean(code, values, count, bits))
 }
@@ -313,12 +313,12 @@ pub extern "C" fn desklink_frame_reason_unguarded(
 #[unsafe(no_mangle)]
 pub extern "C" fn desklink_fill_erasures(code: u32, word: &mut [u8], places: &mut [u16]) -> i32
     ensures value { result
-        ≡ coded (judged (erasureRefusals code word.old places.old) (length (filledPlaces (checksBy code) word.old))) }
+        ≡ coded (judged (erasure_refusals code word.old places.old) (length (filled_places (checks_by code) word.old))) }
     ensures word_after { word.new
-        ≡ kept (erasureRefusals code word.old places.old) word.old (filledWord (checksBy code) word.old) }
+        ≡ kept (erasure_refusals code word.old places.old) word.old (filled_word (checks_by code) word.old) }
     ensures places_after { places.new
-        ≡ kept (erasureRefusals code word.old places.old) places.old
-        (listed (filledPlaces (checksBy code) word.old) places.old) }
+        ≡ kept (erasure_refusals code word.old places.old) places.old
+        (listed (filled_places (checks_by code) word.old) places.old) }
 {
     coded::answer_code(erasure::fill_erasures(code, word, places))
 }
@@ -327,9 +327,9 @@ pub extern "C" fn desklink_fill_erasures(code: u32, word: &mut [u8], places: &mu
 
 #[unsafe(no_mangle)]
 pub extern "C" fn desklink_list_cycles(code: u32, places: &mut [u16], relaxed: &mut u16) -> i32
-    ensures lists { Lists (judged (cycleRefusals code places.old) (reportBy code)) result (lent relaxed.old relaxed.new) }
+    ensures lists { Lists (judged (cycle_refusals code places.old) (report_by code)) result (lent relaxed.old relaxed.new) }
     ensures places_after { places.new
-        ≡ kept (cycleRefusals code places.old) places.old (written_by code places.old) }
+        ≡ kept (cycle_refusals code places.old) places.old (written_by code places.old) }
 {
     coded_parts::listed_code(cycles::list_cycles(code, places), relaxed)
 }
@@ -342,9 +342,9 @@ pub extern "C" fn desklink_values_of_bytes_unguarded(
     positive_is_one: u32,
     values: &mut [f32],
 ) -> i32
-    ensures value { result ≡ coded_unit (judged (bytesRefusals bytes.now values.old) tt) }
+    ensures value { result ≡ coded_unit (judged (bytes_refusals bytes.now values.old) tt) }
     ensures values_after { values.new
-        ≡ kept (bytesRefusals bytes.now values.old) values.old
+        ≡ kept (bytes_refusals bytes.now values.old) values.old
         (values_of (not (eqb positive_is_one 0)) bytes.now) }
 {
     coded::status_code(eighths::values_of_bytes(bytes, positive_is_one != 0, values))
@@ -356,9 +356,9 @@ pub extern "C" fn desklink_bytes_of_values_unguarded(
     positive_is_one: u32,
     bytes: &mut [i8],
 ) -> i32
-    ensures value { result ≡ coded_unit (judged (valuesRefusals values.now bytes.old) tt) }
+    ensures value { result ≡ coded_unit (judged (values_refusals values.now bytes.old) tt) }
     ensures bytes_after { bytes.new
-        ≡ kept (valuesRefusals values.now bytes.old) bytes.old
+        ≡ kept (values_refusals values.now bytes.old) bytes.old
         (bytes_of (not (eqb positive_is_one 0)) values.now) }
 {
     coded::status_code(eighths::bytes_of_values(values, positive_is_one != 0, bytes))
@@ -368,19 +368,19 @@ pub extern "C" fn desklink_bytes_of_values_unguarded(
 
 #[unsafe(no_mangle)]
 pub extern "C" fn desklink_pack_bits(word: &[u8], bytes: &mut [u8]) -> i32
-    ensures value { result ≡ coded_unit (judged (packRefusals word.now bytes.old) tt) }
+    ensures value { result ≡ coded_unit (judged (pack_refusals word.now bytes.old) tt) }
     ensures bytes_after { bytes.new
-        ≡ kept (packRefusals word.now bytes.old) bytes.old (packedWord word.now) }
+        ≡ kept (pack_refusals word.now bytes.old) bytes.old (packed_word word.now) }
 {
     coded::status_code(packing::pack_bits(word, bytes))
 }
 
 #[unsafe(no_mangle)]
 pub extern "C" fn desklink_unpack_bits(bytes: &[u8], word: &mut [u8]) -> i32
-    ensures value { result ≡ coded_unit (judged (unpackRefusals bytes.now word.old) tt) }
+    ensures value { result ≡ coded_unit (judged (unpack_refusals bytes.now word.old) tt) }
     ensures word_after { word.new
-        ≡ kept (unpackRefusals bytes.now word.old) word.old
-        (unpackedWord (length word.old) bytes.now) }
+        ≡ kept (unpack_refusals bytes.now word.old) word.old
+        (unpacked_word (length word.old) bytes.now) }
 {
     coded::status_code(packing::unpack_bits(bytes, word))
 }

@@ -1,8 +1,8 @@
 // Reception figures: a total is four numbers and a fraction two, each lent by itself.
 ghost use Rattle.refusal.specs.Outcome.{judged};
-ghost use Rattle.batch.specs.Pairs.{pairsOf};
+ghost use Rattle.batch.specs.Pairs.{pairs_of};
 ghost use Rattle.figures.specs.Fraction.{lowest};
-ghost use Rattle.figures.specs.Totals.{joinRefusals, sums, fractionRefusals};
+ghost use Rattle.figures.specs.Totals.{join_refusals, sums, fraction_refusals};
 ghost use Rattle.batch_figures.specs.Results.{results, added};
 ghost use Rattle.coded_figures.specs.Figures.{totals, fraction, Writes};
 
@@ -24,7 +24,7 @@ pub extern "C" fn desklink_totals_add_unguarded(
 ) -> i32
     ensures { Writes
         (added (totals frames.old clean.old count_sum.old round_sum.old)
-        (results code values.now (pairsOf pairs.now) bits.now counts.now rounds.now))
+        (results code values.now (pairs_of pairs.now) bits.now counts.now rounds.now))
         result
         (totals frames.old clean.old count_sum.old round_sum.old)
         (totals frames.new clean.new count_sum.new round_sum.new) }
@@ -53,7 +53,7 @@ pub extern "C" fn desklink_totals_join_unguarded(
 ) -> i32
     ensures { let a = totals frames.old clean.old counts.old rounds.old in
         let b = totals more_frames more_clean more_counts more_rounds in
-        Writes (judged (joinRefusals a b) (sums a b)) result a
+        Writes (judged (join_refusals a b) (sums a b)) result a
         (totals frames.new clean.new counts.new rounds.new) }
 {
     let total = Totals {
@@ -79,7 +79,7 @@ pub extern "C" fn desklink_clean_share_unguarded(
     over: &mut u64,
     under: &mut u64,
 ) -> i32
-    ensures { Writes (judged (fractionRefusals frames) (lowest clean frames)) result
+    ensures { Writes (judged (fraction_refusals frames) (lowest clean frames)) result
         (fraction over.old under.old) (fraction over.new under.new) }
 {
     let total = Totals {
@@ -99,7 +99,7 @@ pub extern "C" fn desklink_mean_count_unguarded(
     over: &mut u64,
     under: &mut u64,
 ) -> i32
-    ensures { Writes (judged (fractionRefusals frames) (lowest counts frames)) result
+    ensures { Writes (judged (fraction_refusals frames) (lowest counts frames)) result
         (fraction over.old under.old) (fraction over.new under.new) }
 {
     let total = Totals {

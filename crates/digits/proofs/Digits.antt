@@ -8,36 +8,36 @@ use native.Mathlib.Omega.{arith}
 use lib.Dec.{lit<, lit≤}
 use lib.ListN.{length, length-append}
 use Rattle.text.specs.Text.{leading, decimal}
-use Rattle.text.proofs.Lengths.{leading-short}
-use Rattle.digits.specs.Digits.{digitsFrom, digits, numbered}
+use Rattle.text.proofs.Lengths.{leading_short}
+use Rattle.digits.specs.Digits.{digits_from, digits, numbered}
 
 -- ---- a turn
 
 -- the weight after a weight
-pub weight-next : (k : ℕ) → 0 < k → 10 ^ k / 10 ≡ 10 ^ (k - 1)
-weight-next zero h = absurd (omega arith)
-weight-next (suc k) h = rw (pow-suc 10 k, mul-div_cancel (10 ^ k) {n = 10} (lit< tt), sub-one (suc k))
+pub weight_next : (k : ℕ) → 0 < k → 10 ^ k / 10 ≡ 10 ^ (k - 1)
+weight_next zero h = absurd (omega arith)
+weight_next (suc k) h = rw (pow-suc 10 k, mul-div_cancel (10 ^ k) {n = 10} (lit< tt), sub-one (suc k))
 
-pub digits_more : (k p n : ℕ) → 0 < k → p ≡ 10 ^ k → digitsFrom k n ≡ leading p n ++ digitsFrom (k - 1) n
-unfolding digitsFrom
+pub digits_more : (k p n : ℕ) → 0 < k → p ≡ 10 ^ k → digits_from k n ≡ leading p n ++ digits_from (k - 1) n
+unfolding digits_from
 digits_more zero p n h e = absurd (omega arith)
 digits_more (suc k) p n h e = rw (sub-one (suc k), e)
 
 -- five digits are those of `decimal`
-pub short-same : (n : ℕ) → decimal n ≡ digitsFrom 4 n
-unfolding decimal digitsFrom
-short-same n = refl
+pub short_same : (n : ℕ) → decimal n ≡ digits_from 4 n
+unfolding decimal digits_from
+short_same n = refl
 
 -- ---- lengths
 
-from-short : (k n : ℕ) → length (digitsFrom k n) ≤ k + 1
-unfolding digitsFrom
-from-short zero n = lit≤ tt
-from-short (suc k) n = rw length-append (omega (arith, leading-short (10 ^ suc k) n, from-short k n))
+from_short : (k n : ℕ) → length (digits_from k n) ≤ k + 1
+unfolding digits_from
+from_short zero n = lit≤ tt
+from_short (suc k) n = rw length-append (omega (arith, leading_short (10 ^ suc k) n, from_short k n))
 
-pub digits-short : (n : ℕ) → length (digits n) ≤ 20
+pub digits_short : (n : ℕ) → length (digits n) ≤ 20
 unfolding digits
-digits-short n = from-short 19 n
+digits_short n = from_short 19 n
 
 pub numbered-length : (word : List ℕ) (n : ℕ) → length (numbered word n) ≡ length word + length (digits n)
 unfolding numbered

@@ -2,7 +2,7 @@
 ghost use Rattle.std.specs.Prelude.{◌≡◌, map};
 ghost use Rattle.softmath.specs.Single.{◌⊘◌};
 ghost use Rattle.softmath.specs.Functions.{tanh};
-ghost use Rattle.softmath.specs.CheckNode.{clampedAnswer, negatedAnswer, before, after};
+ghost use Rattle.softmath.specs.CheckNode.{clamped_answer, negated_answer, before, after};
 
 use softmath::DecodeRule;
 
@@ -35,7 +35,7 @@ pub fn before_checks(rule: DecodeRule, part: &mut [f32])
 
 // 2.0 times the atanh of each product, clamped.
 fn clamped_answers(part: &mut [f32])
-    ensures { part.new ≡ map clampedAnswer part.old }
+    ensures { part.new ≡ map clamped_answer part.old }
 {
     let mut i = 0;
     while i < part.len() {
@@ -46,7 +46,7 @@ fn clamped_answers(part: &mut [f32])
 
 // -2.0 times the atanh of each product.
 fn negated_answers(part: &mut [f32])
-    ensures { part.new ≡ map negatedAnswer part.old }
+    ensures { part.new ≡ map negated_answer part.old }
 {
     let mut i = 0;
     while i < part.len() {

@@ -37,5 +37,5 @@ module _ {A : Type 0} (test : A → Bool) (d : A) where
 
 -- ---- the values of a list of which none fails
 
-pub pass-at : (l : List Float) (i : ℕ) → some (λ v. not (passes v)) l ≡ false → i < length l → passes (get_or l i nan) ≡ true
-pass-at l i e h = not-false (passes (get_or l i nan)) (none-at (λ v. not (passes v)) nan l i e h)
+pub pass_at : (l : List Float) (i : ℕ) → some (λ v. not (passes v)) l ≡ false → i < length l → passes (get_or l i nan) ≡ true
+pass_at l i e h = not-false (passes (get_or l i nan)) (none-at (λ v. not (passes v)) nan l i e h)

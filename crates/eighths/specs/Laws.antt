@@ -6,8 +6,8 @@ use Rattle.std.specs.Float.Ieee.Exact.{HasValue}
 use Rattle.std.specs.Int.{w8}
 use Rattle.std.proofs.Common.{SFits}
 use Rattle.refusal.specs.Outcome.{Outcome, accepted, Condition, judged}
-use Rattle.soft_bytes.specs.Values.{eight32, timesEighth}
-use Rattle.eighths.specs.Calls.{bytesRefusals, valuesRefusals, values_of, bytes_of}
+use Rattle.soft_bytes.specs.Values.{eight32, times_eighth}
+use Rattle.eighths.specs.Calls.{bytes_refusals, values_refusals, values_of, bytes_of}
 
 -- every entry is such a one
 pub data Each {A : Type 0} (Such : A → Type 0) : List A → Type 0 where
@@ -25,13 +25,13 @@ abbrev pub Accepted : List Condition → Type 0
 Accepted conditions = ◌≡◌ {A = Outcome Unit} (judged conditions tt) (accepted tt)
 
 -- "Either direction undoes the other on what it accepts": the other accepts what the one writes, and writes what there was
-pub record BytesUndone (positiveIsOne : Bool) (bytes : List ℤ) : Type 0 where
-  pub takenBack : Accepted (valuesRefusals (values_of positiveIsOne bytes) bytes)
-  pub undone : bytes_of positiveIsOne (values_of positiveIsOne bytes) ≡ bytes
+pub record BytesUndone (positive_is_one : Bool) (bytes : List ℤ) : Type 0 where
+  pub taken_back : Accepted (values_refusals (values_of positive_is_one bytes) bytes)
+  pub undone : bytes_of positive_is_one (values_of positive_is_one bytes) ≡ bytes
 
-pub record ValuesUndone (positiveIsOne : Bool) (values : List Float) : Type 0 where
-  pub takenBack : Accepted (bytesRefusals (bytes_of positiveIsOne values) values)
-  pub undone : values_of positiveIsOne (bytes_of positiveIsOne values) ≡ values
+pub record ValuesUndone (positive_is_one : Bool) (values : List Float) : Type 0 where
+  pub taken_back : Accepted (bytes_refusals (bytes_of positive_is_one values) values)
+  pub undone : values_of positive_is_one (bytes_of positive_is_one values) ≡ values
 
 -- "no rounding occurs". `HasValue x s a c`: x is finite, has the sign s, and is a / c in size
 
@@ -42,7 +42,7 @@ negative (negsuc n) = true
 
 -- the rounded product of a byte and 0.125 is the byte over eight
 abbrev pub ByteUnrounded : ℤ → Type 0
-ByteUnrounded b = HasValue (timesEighth b) (negative b) (nat_abs b) 8
+ByteUnrounded b = HasValue (times_eighth b) (negative b) (nat_abs b) 8
 
 -- a value of n eighths: the rounded product of it and 8.0 is n
 pub record ValueUnrounded (v : Float) : Type 0 where

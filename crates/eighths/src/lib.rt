@@ -1,9 +1,9 @@
 // The converter between the other maker's soft values, one signed byte a bit in eighths, and our f32 values.
 ghost use Rattle.std.specs.Prelude.{◌≡◌, false, not, length};
 ghost use Rattle.refusal.specs.Outcome.{judged, kept};
-ghost use Rattle.refusal.specs.Answers.{statusOf};
-ghost use Rattle.soft_bytes.specs.Values.{isLeast, passes};
-ghost use Rattle.eighths.specs.Calls.{some, bytesRefusals, valuesRefusals, values_of, bytes_of};
+ghost use Rattle.refusal.specs.Answers.{status_of};
+ghost use Rattle.soft_bytes.specs.Values.{is_least, passes};
+ghost use Rattle.eighths.specs.Calls.{some, bytes_refusals, values_refusals, values_of, bytes_of};
 
 use refusal::{Refusal, Status};
 
@@ -11,7 +11,7 @@ use refusal::{Refusal, Status};
 
 // Whether some byte is -128.
 fn some_least(bytes: &[i8]) -> bool
-    ensures { result ≡ some isLeast bytes.now }
+    ensures { result ≡ some is_least bytes.now }
 {
     let mut i = 0;
     while i < bytes.len() {
@@ -38,9 +38,9 @@ fn write_values(bytes: &[i8], positive_is_one: bool, values: &mut [f32])
 
 // Each byte times 0.125, negated for the models that count positive as 1.
 pub fn values_of_bytes(bytes: &[i8], positive_is_one: bool, values: &mut [f32]) -> Status
-    ensures result_value { statusOf result ≡ judged (bytesRefusals bytes.now values.old) tt }
+    ensures result_value { status_of result ≡ judged (bytes_refusals bytes.now values.old) tt }
     ensures values_after { values.new
-        ≡ kept (bytesRefusals bytes.now values.old) values.old (values_of positive_is_one bytes.now) }
+        ≡ kept (bytes_refusals bytes.now values.old) values.old (values_of positive_is_one bytes.now) }
 {
     if bytes.len() != values.len() {
         return Status::Refused(Refusal::InputLength);
@@ -82,9 +82,9 @@ fn write_bytes(values: &[f32], positive_is_one: bool, bytes: &mut [i8])
 
 // Eight times each value, negated for the models that count positive as 1.
 pub fn bytes_of_values(values: &[f32], positive_is_one: bool, bytes: &mut [i8]) -> Status
-    ensures result_value { statusOf result ≡ judged (valuesRefusals values.now bytes.old) tt }
+    ensures result_value { status_of result ≡ judged (values_refusals values.now bytes.old) tt }
     ensures bytes_after { bytes.new
-        ≡ kept (valuesRefusals values.now bytes.old) bytes.old (bytes_of positive_is_one values.now) }
+        ≡ kept (values_refusals values.now bytes.old) bytes.old (bytes_of positive_is_one values.now) }
 {
     if values.len() != bytes.len() {
         return Status::Refused(Refusal::InputLength);

@@ -3,21 +3,21 @@
 use Rattle.std.specs.Prelude.{◌≡◌, List, [], ◌∷◌, map, ℕ, zero, suc, Float, length, take}
 use Rattle.refusal.specs.Outcome.{Outcome, judged, kept}
 use Rattle.softmath.specs.Single.{one32}
-use Rattle.softmath.specs.CheckNode.{checkStep}
-use Rattle.by_others.specs.Others.{othersSum}
+use Rattle.softmath.specs.CheckNode.{check_step}
+use Rattle.by_others.specs.Others.{others_sum}
 use Rattle.softmath.specs.declared.DecodeRule.{DecodeRule}
 use Rattle.softmath.specs.declared.DecodeRule.TheVariants.{SumProduct, MinSum, ScaledMinSum, Ft8}
-use Rattle.tanner.specs.Checks.{Word, count, firstUnsatisfied, First}
+use Rattle.tanner.specs.Checks.{Word, count, first_unsatisfied, First}
 use Rattle.tanner.specs.Flat.{joined}
-use Rattle.one_round.specs.Round.{Decode, firstMessages, byCheck, decided, sent, initialWord}
-use Rattle.rounds.specs.Rounds.{unlessDone, chosenFrom}
+use Rattle.one_round.specs.Round.{Decode, first_messages, by_check, decided, sent, initial_word}
+use Rattle.rounds.specs.Rounds.{unless_done, chosen_from}
 use Rattle.work_area.specs.Area.{cleared}
-use Rattle.batch.specs.Codes.{sizeK}
-use Rattle.batch.specs.Calls.{Lent, Batch, refusals, frames, frameDecode}
-use Rattle.check_places.specs.Places.{placeOf}
-use Rattle.batch_input.specs.Handed.{batchIn, inputRefusals}
+use Rattle.batch.specs.Codes.{size_k}
+use Rattle.batch.specs.Calls.{Lent, Batch, refusals, frames, frame_decode}
+use Rattle.check_places.specs.Places.{place_of}
+use Rattle.batch_input.specs.Handed.{batch_in, input_refusals}
 use Rattle.text.specs.Text.{printed}
-use Rattle.listing.specs.Listing.{framesText}
+use Rattle.listing.specs.Listing.{frames_text}
 
 -- ---- engines
 
@@ -26,63 +26,63 @@ abbrev pub Engine : Type 0
 Engine = DecodeRule → List Float → List Float
 
 -- the two minima, "as in the file"
-abbrev pub byMinima : Engine
-byMinima = checkStep
+abbrev pub by_minima : Engine
+by_minima = check_step
 
 -- "a second engine that, for each entry, goes through the other entries for their least magnitude and their sign", "for both min-sum rules"
-unfoldable pub byOthers : Engine
-byOthers SumProduct ms = checkStep SumProduct ms
-byOthers MinSum ms = othersSum one32 ms
-byOthers (ScaledMinSum scale) ms = othersSum scale ms
-byOthers Ft8 ms = checkStep Ft8 ms
+unfoldable pub by_others : Engine
+by_others SumProduct ms = check_step SumProduct ms
+by_others MinSum ms = others_sum one32 ms
+by_others (ScaledMinSum scale) ms = others_sum scale ms
+by_others Ft8 ms = check_step Ft8 ms
 
 -- ---- a decode by an engine
 
 -- the check step: each check answers its own messages
-unfoldable pub answersBy : Engine → Decode → List Float → List Float
-answersBy e d ms = joined (map (e d.rule) (byCheck d.checks ms))
+unfoldable pub answers_by : Engine → Decode → List Float → List Float
+answers_by e d ms = joined (map (e d.rule) (by_check d.checks ms))
 
 -- "A round is check step, decision, count, new messages." The words of at most n rounds from these messages.
-unfoldable pub wordsBy : Engine → Decode → ℕ → List Float → List Word
-wordsBy e d zero ms = []
-wordsBy e d (suc n) ms =
-    let ans = answersBy e d ms in
+unfoldable pub words_by : Engine → Decode → ℕ → List Float → List Word
+words_by e d zero ms = []
+words_by e d (suc n) ms =
+    let ans = answers_by e d ms in
     let w = decided d ans in
-    let more = wordsBy e d n (sent d ans) in
-    w ∷ unlessDone d w more
+    let more = words_by e d n (sent d ans) in
+    w ∷ unless_done d w more
 
 -- the words of the rounds run
-unfoldable pub roundWordsBy : Engine → Decode → ℕ → List Word
-roundWordsBy e d limit =
-    let more = wordsBy e d limit (firstMessages d) in
-    unlessDone d (initialWord d) more
+unfoldable pub round_words_by : Engine → Decode → ℕ → List Word
+round_words_by e d limit =
+    let more = words_by e d limit (first_messages d) in
+    unless_done d (initial_word d) more
 
 -- the chosen word
-unfoldable pub chosenBy : Engine → Decode → ℕ → Word
-chosenBy e d limit = chosenFrom d.checks (initialWord d) (roundWordsBy e d limit)
+unfoldable pub chosen_by : Engine → Decode → ℕ → Word
+chosen_by e d limit = chosen_from d.checks (initial_word d) (round_words_by e d limit)
 
 -- what a decode answers: the chosen word's first k bits, its count, its first unsatisfied check, and the rounds run
-unfoldable pub bitsBy : Engine → Decode → ℕ → ℕ → List ℕ
-bitsBy e d limit k = take k (chosenBy e d limit)
+unfoldable pub bits_by : Engine → Decode → ℕ → ℕ → List ℕ
+bits_by e d limit k = take k (chosen_by e d limit)
 
-unfoldable pub countBy : Engine → Decode → ℕ → ℕ
-countBy e d limit = count d.checks (chosenBy e d limit)
+unfoldable pub count_by : Engine → Decode → ℕ → ℕ
+count_by e d limit = count d.checks (chosen_by e d limit)
 
-unfoldable pub firstBy : Engine → Decode → ℕ → First
-firstBy e d limit = firstUnsatisfied d.checks (chosenBy e d limit)
+unfoldable pub first_by : Engine → Decode → ℕ → First
+first_by e d limit = first_unsatisfied d.checks (chosen_by e d limit)
 
-unfoldable pub roundsBy : Engine → Decode → ℕ → ℕ
-roundsBy e d limit = length (roundWordsBy e d limit)
+unfoldable pub rounds_by : Engine → Decode → ℕ → ℕ
+rounds_by e d limit = length (round_words_by e d limit)
 
 -- ---- a batch by an engine
 
 -- what it writes: its frames' bits, counts, rounds run and first unsatisfied checks, and the work area
 unfoldable pub written_by : Engine → Batch → Lent
 written_by e b = record {
-  bits = joined (map (λ llr. bitsBy e (frameDecode b llr) b.limit (sizeK b.code)) (frames b));
-  counts = map (λ llr. countBy e (frameDecode b llr) b.limit) (frames b);
-  rounds = map (λ llr. roundsBy e (frameDecode b llr) b.limit) (frames b);
-  firsts = map (λ llr. placeOf (firstBy e (frameDecode b llr) b.limit)) (frames b);
+  bits = joined (map (λ llr. bits_by e (frame_decode b llr) b.limit (size_k b.code)) (frames b));
+  counts = map (λ llr. count_by e (frame_decode b llr) b.limit) (frames b);
+  rounds = map (λ llr. rounds_by e (frame_decode b llr) b.limit) (frames b);
+  firsts = map (λ llr. place_of (first_by e (frame_decode b llr) b.limit)) (frames b);
   work = cleared b.memory.work;
 }
 
@@ -94,5 +94,5 @@ pub record AnsweredBy (e : Engine) (b : Batch) (answer : Outcome Unit) (left : L
 -- ---- a listing by an engine
 
 -- what the program prints for an input
-unfoldable pub listingBy : Engine → List ℕ → List ℕ
-listingBy e s = printed (judged (inputRefusals s) (framesText (batchIn s) (written_by e (batchIn s))))
+unfoldable pub listing_by : Engine → List ℕ → List ℕ
+listing_by e s = printed (judged (input_refusals s) (frames_text (batch_in s) (written_by e (batch_in s))))

@@ -8,16 +8,16 @@ use native.Mathlib.Decide.{dec_lt}
 use native.Mathlib.Omega.{arith}
 use lib.ListN.{length, get_or, take, replicate, length-append, length-replicate, get_or-replicate, get_or-append}
 use lib.Seq.{get_or-take, get_or-append-add, length-take-le, ext_get_or}
-use Rattle.construction.specs.Codes.{Code, blockLength}
+use Rattle.construction.specs.Codes.{Code, block_length}
 use Rattle.tanner.specs.Checks.{Word, count}
 use Rattle.lists.specs.Below.{Below}
-use Rattle.staircase.specs.Staircase.{taps, parityEntries, checkRow, checksOf}
+use Rattle.staircase.specs.Staircase.{taps, parity_entries, check_row, checks_of}
 use Rattle.staircase.specs.Codes as staircase
-use Rattle.staircase.proofs.Positions.{taps-below, row_at}
+use Rattle.staircase.proofs.Positions.{taps_below, row_at}
 use Rattle.staircase.proofs.EdgeCount.{columns-length}
-use Rattle.filling.specs.Filling.{filledWord}
+use Rattle.filling.specs.Filling.{filled_word}
 use Rattle.filling.specs.Promise.{named, OnlyUnknown, Agrees, Fills}
-use Rattle.filling.proofs.Named.{named_none, named-head, named-append, named_other, named_past}
+use Rattle.filling.proofs.Named.{named_none, named_head, named_append, named_other, named_past}
 use Rattle.erasure.proofs.Codes.{columns-once}
 use Rattle.filling.proofs.Laws.{fills}
 
@@ -27,27 +27,27 @@ erased k m v = take k v ++ replicate m 2
 
 -- ---- a row names its own parity position, and none above it
 
-entries-own : (k i : ℕ) → 0 < named (k + i) (parityEntries k i)
-unfolding parityEntries
-entries-own k zero = rw add-zero (named-head k [])
-entries-own k (suc i) = named-head (k + suc i) ((k + i) ∷ [])
+entries_own : (k i : ℕ) → 0 < named (k + i) (parity_entries k i)
+unfolding parity_entries
+entries_own k zero = rw add-zero (named_head k [])
+entries_own k (suc i) = named_head (k + suc i) ((k + i) ∷ [])
 
-entries-above : (k i p : ℕ) → k + i < p → named p (parityEntries k i) ≡ 0
-unfolding parityEntries
+entries-above : (k i p : ℕ) → k + i < p → named p (parity_entries k i) ≡ 0
+unfolding parity_entries
 entries-above k zero p h = named_other p k [] (λ e. omega arith) ∙ named_none p
 entries-above k (suc i) p h =
     named_other p (k + suc i) _ (λ e. omega arith) ∙ named_other p (k + i) [] (λ e. omega arith) ∙ named_none p
 
 module _ (k : ℕ) (cols : List (List ℕ)) (size : length cols ≤ k) where
-  row-own : (i : ℕ) → 0 < named (k + i) (checkRow k cols i)
-  unfolding checkRow
-  row-own i = omega (arith, named-append (k + i) (taps i 0 cols) (parityEntries k i), entries-own k i)
+  row-own : (i : ℕ) → 0 < named (k + i) (check_row k cols i)
+  unfolding check_row
+  row-own i = omega (arith, named_append (k + i) (taps i 0 cols) (parity_entries k i), entries_own k i)
 
-  row-above : (i p : ℕ) → k + i < p → named p (checkRow k cols i) ≡ 0
-  unfolding checkRow
+  row-above : (i p : ℕ) → k + i < p → named p (check_row k cols i) ≡ 0
+  unfolding check_row
   row-above i p h =
-      named-append p (taps i 0 cols) (parityEntries k i)
-      ∙ omega (arith, entries-above k i p h, named_past k p (taps i 0 cols) (taps-below k i 0 cols (omega arith)) (omega arith))
+      named_append p (taps i 0 cols) (parity_entries k i)
+      ∙ omega (arith, entries-above k i p h, named_past k p (taps i 0 cols) (taps_below k i 0 cols (omega arith)) (omega arith))
 
 -- ---- the erased word
 
@@ -80,10 +80,10 @@ module _ (k m : ℕ) (v : Word) (long : length v ≡ k + m) where
 -- ---- it is filled whole
 
 module _ (k m : ℕ) (cols : List (List ℕ)) (size : length cols ≤ k) (v : Word) (long : length v ≡ k + m) (bits : Below 2 v) where
-  all : Fills (checksOf k m cols) (erased k m v)
-  all = fills (checksOf k m cols) (erased k m v) (columns-once k cols size m)
+  all : Fills (checks_of k m cols) (erased k m v)
+  all = fills (checks_of k m cols) (erased k m v) (columns-once k cols size m)
 
-  message-known : (p : ℕ) → p < k → get_or (filledWord (checksOf k m cols) (erased k m v)) p 0 ≡ 2 → ⊥
+  message-known : (p : ℕ) → p < k → get_or (filled_word (checks_of k m cols) (erased k m v)) p 0 ≡ 2 → ⊥
   unfolding Below
   message-known p h e =
       let same = erased-known k m v long p h in
@@ -91,39 +91,39 @@ module _ (k m : ℕ) (cols : List (List ℕ)) (size : length cols ≤ k) (v : Wo
       let kept = all.known p (λ u. omega (arith, same, low)) in
       omega (arith, same, low, kept)
 
-  own-only : (i : ℕ) → i < m → ((p : ℕ) → p < k + i → get_or (filledWord (checksOf k m cols) (erased k m v)) p 0 ≡ 2 → ⊥)
-      → get_or (filledWord (checksOf k m cols) (erased k m v)) (k + i) 0 ≡ 2
-      → OnlyUnknown (checkRow k cols i) (filledWord (checksOf k m cols) (erased k m v)) (k + i)
+  own-only : (i : ℕ) → i < m → ((p : ℕ) → p < k + i → get_or (filled_word (checks_of k m cols) (erased k m v)) p 0 ≡ 2 → ⊥)
+      → get_or (filled_word (checks_of k m cols) (erased k m v)) (k + i) 0 ≡ 2
+      → OnlyUnknown (check_row k cols i) (filled_word (checks_of k m cols) (erased k m v)) (k + i)
   own-only i h below e = record {
     covered = row-own k cols size i;
     unknown = e;
     alone = λ q named-there u. by q named-there u (dec_lt q (k + i)) (dec_lt (k + i) q);
   }
     where
-      by : (q : ℕ) → 0 < named q (checkRow k cols i) → get_or (filledWord (checksOf k m cols) (erased k m v)) q 0 ≡ 2 → Dec (q < k + i) → Dec (k + i < q)
+      by : (q : ℕ) → 0 < named q (check_row k cols i) → get_or (filled_word (checks_of k m cols) (erased k m v)) q 0 ≡ 2 → Dec (q < k + i) → Dec (k + i < q)
           → q ≡ k + i
       by q there u (yes l) d = absurd (below q l u)
       by q there u (no l) (yes g) = absurd (omega (arith, row-above k cols size i q g))
       by q there u (no l) (no g) = omega arith
 
-  known-to : (i : ℕ) → i ≤ m → (p : ℕ) → p < k + i → get_or (filledWord (checksOf k m cols) (erased k m v)) p 0 ≡ 2 → ⊥
+  known-to : (i : ℕ) → i ≤ m → (p : ℕ) → p < k + i → get_or (filled_word (checks_of k m cols) (erased k m v)) p 0 ≡ 2 → ⊥
   known-to zero h p l e = message-known p (omega arith) e
   known-to (suc i) h p l e = by (dec_lt p (k + i)) (known-to i (omega arith))
     where
-      by : Dec (p < k + i) → ((q : ℕ) → q < k + i → get_or (filledWord (checksOf k m cols) (erased k m v)) q 0 ≡ 2 → ⊥) → ⊥
+      by : Dec (p < k + i) → ((q : ℕ) → q < k + i → get_or (filled_word (checks_of k m cols) (erased k m v)) q 0 ≡ 2 → ⊥) → ⊥
       by (yes g) below = below p g e
       by (no g) below =
           let here : p ≡ k + i = omega arith in
-          all.noneLeft i (k + i) (rw (row_at k m cols i (omega arith)) (own-only i (omega arith) below (rw here at e)))
+          all.none_left i (k + i) (rw (row_at k m cols i (omega arith)) (own-only i (omega arith) below (rw here at e)))
 
-  pub columns-back : count (checksOf k m cols) v ≡ 0 → filledWord (checksOf k m cols) (erased k m v) ≡ v
+  pub columns-back : count (checks_of k m cols) v ≡ 0 → filled_word (checks_of k m cols) (erased k m v) ≡ v
   columns-back z =
-      let after = all.everyWord v (erased-agrees k m v long bits) z in
-      ext_get_or 0 (filledWord (checksOf k m cols) (erased k m v)) v (sym after.long)
+      let after = all.every_word v (erased-agrees k m v long bits) z in
+      ext_get_or 0 (filled_word (checks_of k m cols) (erased k m v)) v (sym after.long)
       (λ p h. after.known p h (known-to m (omega arith) p (omega (arith, after.long))))
 
 -- each of the three codes
-pub filled-back : (c : Code) (v : Word) → length v ≡ blockLength c → Below 2 v → count (staircase.checks c) v ≡ 0
-    → filledWord (staircase.checks c) (erased c.k c.m v) ≡ v
+pub filled-back : (c : Code) (v : Word) → length v ≡ block_length c → Below 2 v → count (staircase.checks c) v ≡ 0
+    → filled_word (staircase.checks c) (erased c.k c.m v) ≡ v
 unfolding staircase.checks
 filled-back c v long bits z = columns-back c.k c.m (staircase.columns c) (omega (arith, columns-length c)) v long bits z

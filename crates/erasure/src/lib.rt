@@ -2,10 +2,10 @@
 ghost use Rattle.std.specs.Prelude.{◌≡◌, length};
 ghost use Rattle.refusal.specs.Outcome.{judged, kept};
 ghost use Rattle.refusal.specs.Answers.{answer_of};
-ghost use Rattle.filling.specs.Filling.{filledWord, filledPlaces, listed};
+ghost use Rattle.filling.specs.Filling.{filled_word, filled_places, listed};
 ghost use Rattle.filling.specs.Calls.{FilledAs};
-ghost use Rattle.numbered.specs.Codes.{checksBy};
-ghost use Rattle.erasure.specs.Calls.{erasureRefusals};
+ghost use Rattle.numbered.specs.Codes.{checks_by};
+ghost use Rattle.erasure.specs.Calls.{erasure_refusals};
 
 use construction::codes::{N512R12, N512R34, N576R23};
 use ldpc::tables::{CHECK_BITS, CHECK_STARTS};
@@ -17,7 +17,7 @@ use staircase::tables::{
 
 // A word of each code. Its tables are named by a function of their own: a constant is laid where the function that names it starts.
 fn fill_n512r12(word: &mut [u8], places: &mut [u16]) -> Answer
-    ensures { FilledAs (erasureRefusals 0 word.old places.old) (checksBy 0)
+    ensures { FilledAs (erasure_refusals 0 word.old places.old) (checks_by 0)
         word.old places.old (answer_of result) word.new places.new }
 {
     filling::fill_over(
@@ -30,7 +30,7 @@ fn fill_n512r12(word: &mut [u8], places: &mut [u16]) -> Answer
 }
 
 fn fill_n576r23(word: &mut [u8], places: &mut [u16]) -> Answer
-    ensures { FilledAs (erasureRefusals 1 word.old places.old) (checksBy 1)
+    ensures { FilledAs (erasure_refusals 1 word.old places.old) (checks_by 1)
         word.old places.old (answer_of result) word.new places.new }
 {
     filling::fill_over(
@@ -43,7 +43,7 @@ fn fill_n576r23(word: &mut [u8], places: &mut [u16]) -> Answer
 }
 
 fn fill_n512r34(word: &mut [u8], places: &mut [u16]) -> Answer
-    ensures { FilledAs (erasureRefusals 2 word.old places.old) (checksBy 2)
+    ensures { FilledAs (erasure_refusals 2 word.old places.old) (checks_by 2)
         word.old places.old (answer_of result) word.new places.new }
 {
     filling::fill_over(
@@ -56,7 +56,7 @@ fn fill_n512r34(word: &mut [u8], places: &mut [u16]) -> Answer
 }
 
 fn fill_ft8(word: &mut [u8], places: &mut [u16]) -> Answer
-    ensures { FilledAs (erasureRefusals 3 word.old places.old) (checksBy 3)
+    ensures { FilledAs (erasure_refusals 3 word.old places.old) (checks_by 3)
         word.old places.old (answer_of result) word.new places.new }
 {
     filling::fill_over(&CHECK_STARTS, &CHECK_BITS, ldpc::N, word, places)
@@ -65,12 +65,12 @@ fn fill_ft8(word: &mut [u8], places: &mut [u16]) -> Answer
 // Fills a word of the code with that number: sets the unknown bits that its checks decide, and lists their positions.
 pub fn fill_erasures(code: u32, word: &mut [u8], places: &mut [u16]) -> Answer
     ensures result_value { answer_of result
-        ≡ judged (erasureRefusals code word.old places.old) (length (filledPlaces (checksBy code) word.old)) }
+        ≡ judged (erasure_refusals code word.old places.old) (length (filled_places (checks_by code) word.old)) }
     ensures word_after { word.new
-        ≡ kept (erasureRefusals code word.old places.old) word.old (filledWord (checksBy code) word.old) }
+        ≡ kept (erasure_refusals code word.old places.old) word.old (filled_word (checks_by code) word.old) }
     ensures places_after { places.new
-        ≡ kept (erasureRefusals code word.old places.old) places.old
-        (listed (filledPlaces (checksBy code) word.old) places.old) }
+        ≡ kept (erasure_refusals code word.old places.old) places.old
+        (listed (filled_places (checks_by code) word.old) places.old) }
 {
     if code == 0 {
         return fill_n512r12(word, places);

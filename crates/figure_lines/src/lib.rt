@@ -1,7 +1,7 @@
 // The lines of the reception figures, written into a lent buffer: that of a total, and that of a file that is not counted.
 ghost use Rattle.std.specs.Prelude.{◌+◌, ◌≤◌, length};
 ghost use Rattle.text.specs.Written.{Written};
-ghost use Rattle.figure_lines.specs.Lines.{sumsText, fractionText, figuresText, totalsLine, fileLine};
+ghost use Rattle.figure_lines.specs.Lines.{sums_text, fraction_text, figures_text, totals_line, file_line};
 
 use figures::{Figure, Totals};
 use refusal::Refusal;
@@ -18,7 +18,7 @@ pub enum Reason {
 // The four sums.
 fn put_sums(out: &mut [u8], at: usize, t: Totals) -> usize
     requires { at + 110 ≤ length out.old }
-    ensures { Written out.old at (sumsText t) out.new result }
+    ensures { Written out.old at (sums_text t) out.new result }
 {
     let a = digits::put_number(out, at, b"frames ", t.frames as u64);
     let b = digits::put_number(out, a, b" clean ", t.clean);
@@ -29,7 +29,7 @@ fn put_sums(out: &mut [u8], at: usize, t: Totals) -> usize
 // A word and a fraction after it.
 fn put_fraction(out: &mut [u8], at: usize, word: &[u8], over: u64, under: u64) -> usize
     requires { at + (length word.now + 41) ≤ length out.old }
-    ensures { Written out.old at (fractionText word.now (record { over = over; under = under })) out.new result }
+    ensures { Written out.old at (fraction_text word.now (record { over = over; under = under })) out.new result }
 {
     let a = digits::put_number(out, at, word, over);
     digits::put_number(out, a, b"/", under)
@@ -38,7 +38,7 @@ fn put_fraction(out: &mut [u8], at: usize, word: &[u8], over: u64, under: u64) -
 // The sums, the share a/b and the mean d/e.
 fn put_figures(out: &mut [u8], at: usize, t: Totals, a: u64, b: u64, d: u64, e: u64) -> usize
     requires { at + 206 ≤ length out.old }
-    ensures { Written out.old at (figuresText t (record { over = a; under = b }) (record { over = d; under = e })) out.new result }
+    ensures { Written out.old at (figures_text t (record { over = a; under = b }) (record { over = d; under = e })) out.new result }
 {
     let sums = put_sums(out, at, t);
     let share = put_fraction(out, sums, b" share ", a, b);
@@ -49,7 +49,7 @@ fn put_figures(out: &mut [u8], at: usize, t: Totals, a: u64, b: u64, d: u64, e: 
 // The line of a total.
 pub fn totals_line(out: &mut [u8], at: usize, t: Totals) -> usize
     requires { at + 206 ≤ length out.old }
-    ensures { Written out.old at (totalsLine t) out.new result }
+    ensures { Written out.old at (totals_line t) out.new result }
 {
     let Figure::Fraction(a, b) = figures::clean_share(t) else {
         return text::refusal_line(out, at, 15);
@@ -65,7 +65,7 @@ pub fn totals_line(out: &mut [u8], at: usize, t: Totals) -> usize
 // The line of the file at that place among the arguments.
 pub fn file_line(out: &mut [u8], at: usize, place: u64, reason: Reason) -> usize
     requires { at + 35 ≤ length out.old }
-    ensures { Written out.old at (fileLine place reason) out.new result }
+    ensures { Written out.old at (file_line place reason) out.new result }
 {
     let a = digits::put_digits(out, at, place);
     match reason {

@@ -2,15 +2,15 @@
 use mathlib.Core.Path.{◌≡◌, refl}
 use mathlib.Core.List.{[], ◌∷◌}
 use lib.ListN.{replicate}
-use Rattle.text.specs.Text.{leading, decimal, field, refusalLine}
-use Rattle.digits.specs.Digits.{digitsFrom, digits}
+use Rattle.text.specs.Text.{leading, decimal, field, refusal_line}
+use Rattle.digits.specs.Digits.{digits_from, digits}
 use Rattle.batch_input.specs.Input.{malformed}
-use Rattle.figure_lines.specs.Lines.{totalsLine, refusedLine, unreadableLine}
-use Rattle.input_figures.specs.Added.{inputAdded}
-use Rattle.figure_report.specs.Report.{bytes, unread, totalAfter, line_for, reportFrom, report}
+use Rattle.figure_lines.specs.Lines.{totals_line, refused_line, unreadable_line}
+use Rattle.input_figures.specs.Added.{input_added}
+use Rattle.figure_report.specs.Report.{bytes, unread, total_after, line_for, report_from, report}
 
-two-files : report (bytes (replicate 11 0) ∷ unread ∷ []) ≡
+two_files : report (bytes (replicate 11 0) ∷ unread ∷ []) ≡
     49 ∷ 32 ∷ 114 ∷ 101 ∷ 102 ∷ 117 ∷ 115 ∷ 101 ∷ 100 ∷ 32 ∷ 49 ∷ 51 ∷ 10 ∷ 50 ∷ 32 ∷ 117 ∷ 110 ∷ 114 ∷ 101 ∷ 97 ∷ 100 ∷ 97 ∷ 98 ∷ 108 ∷ 101 ∷ 10 ∷ 114 ∷
     101 ∷ 102 ∷ 117 ∷ 115 ∷ 101 ∷ 100 ∷ 32 ∷ 49 ∷ 53 ∷ 10 ∷ []
-unfolding reportFrom totalAfter line_for inputAdded malformed refusedLine unreadableLine totalsLine digits digitsFrom leading refusalLine field decimal
-two-files = refl
+unfolding report_from total_after line_for input_added malformed refused_line unreadable_line totals_line digits digits_from leading refusal_line field decimal
+two_files = refl

@@ -1,6 +1,6 @@
 // What `batchfigures` does with a file: its batch is added to the total, or the file has a line that says why it is not.
 ghost use Rattle.std.specs.Prelude.{◌≤◌, length};
-ghost use Rattle.figure_report.specs.Report.{fileOf, Stepped};
+ghost use Rattle.figure_report.specs.Report.{file_of, Stepped};
 
 use figure_lines::Reason;
 use figures::{Summed, Totals};
@@ -15,7 +15,7 @@ pub struct Step {
 // The file at that place among the arguments. Of one that cannot be read, `input` is not looked at.
 pub fn add_file(total: Totals, place: u64, readable: bool, input: &[u8], out: &mut [u8]) -> Step
     requires { 35 ≤ length out.old }
-    ensures { Stepped place total (fileOf readable input.now) out.old out.new result }
+    ensures { Stepped place total (file_of readable input.now) out.old out.new result }
 {
     if !readable {
         let end = figure_lines::file_line(out, 0, place, Reason::Unreadable);

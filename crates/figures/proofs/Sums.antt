@@ -8,15 +8,15 @@ use native.Mathlib.Omega.{arith}
 use borrow.Author.Tests.{lt-ltb, le-ltb}
 use lib.Dec.{ltb}
 use Rattle.refusal.specs.Outcome.{judged}
-use Rattle.figures.specs.Totals.{joinRefusals, sums, ofFrame, Frame, nothingYet, totalsOf}
+use Rattle.figures.specs.Totals.{join_refusals, sums, of_frame, Frame, nothing_yet, totals_of}
 use Rattle.figures.specs.declared.Totals.{Totals}
 
 -- "Joining two totals gives the same sums, or 14, in either order"
-pub either_order : (a b : Totals) → judged (joinRefusals a b) (sums a b) ≡ judged (joinRefusals b a) (sums b a)
+pub either_order : (a b : Totals) → judged (join_refusals a b) (sums a b) ≡ judged (join_refusals b a) (sums b a)
 either_order a b = rw (add_comm a.frames b.frames, add_comm a.clean b.clean, add_comm a.counts b.counts, add_comm a.rounds b.rounds)
 
-pub sums-assoc : (a b c : Totals) → sums (sums a b) c ≡ sums a (sums b c)
-sums-assoc a b c =
+pub sums_assoc : (a b c : Totals) → sums (sums a b) c ≡ sums a (sums b c)
+sums_assoc a b c =
     rw (
       add_assoc a.frames b.frames c.frames,
       add_assoc a.clean b.clean c.clean,
@@ -24,12 +24,12 @@ sums-assoc a b c =
       add_assoc a.rounds b.rounds c.rounds,
     )
 
-pub sums-nothing : (a : Totals) → sums nothingYet a ≡ a
+pub sums-nothing : (a : Totals) → sums nothing_yet a ≡ a
 sums-nothing a = rw (zero-add a.frames, zero-add a.clean, zero-add a.counts, zero-add a.rounds)
 
 -- what two totals come to, joined with a third
-pub joined-further : (a b c : Totals) → judged (joinRefusals (sums a b) c) (sums (sums a b) c) ≡ judged (joinRefusals a (sums b c)) (sums a (sums b c))
-joined-further a b c =
+pub joined_further : (a b c : Totals) → judged (join_refusals (sums a b) c) (sums (sums a b) c) ≡ judged (join_refusals a (sums b c)) (sums a (sums b c))
+joined_further a b c =
     rw (
       add_assoc a.frames b.frames c.frames,
       add_assoc a.clean b.clean c.clean,
@@ -37,26 +37,26 @@ joined-further a b c =
       add_assoc a.rounds b.rounds c.rounds,
     )
 
-pub nothing-added : (a : Totals) → sums a nothingYet ≡ a
+pub nothing-added : (a : Totals) → sums a nothing_yet ≡ a
 nothing-added a = rw (add-zero a.frames, add-zero a.clean, add-zero a.counts, add-zero a.rounds)
 
 -- "joining the totals of two batches equals the totals of all their frames"
-pub totals-joined : (xs ys : List Frame) → totalsOf (xs ++ ys) ≡ sums (totalsOf xs) (totalsOf ys)
-unfolding totalsOf
-totals-joined [] ys = sym (sums-nothing (totalsOf ys))
+pub totals-joined : (xs ys : List Frame) → totals_of (xs ++ ys) ≡ sums (totals_of xs) (totals_of ys)
+unfolding totals_of
+totals-joined [] ys = sym (sums-nothing (totals_of ys))
 totals-joined (f ∷ fs) ys =
-    ap (sums (ofFrame f.count f.rounds f.clean)) (totals-joined fs ys)
-    ∙ sym (sums-assoc (ofFrame f.count f.rounds f.clean) (totalsOf fs) (totalsOf ys))
+    ap (sums (of_frame f.count f.rounds f.clean)) (totals-joined fs ys)
+    ∙ sym (sums_assoc (of_frame f.count f.rounds f.clean) (totals_of fs) (totals_of ys))
 
 -- the same of the call's answer: "Where no limit is passed", the totals of all frames, and else 14
-pub batches-joined : (xs ys : List Frame)
-    → judged (joinRefusals (totalsOf xs) (totalsOf ys)) (sums (totalsOf xs) (totalsOf ys)) ≡ judged (joinRefusals (totalsOf xs) (totalsOf ys))
-    (totalsOf (xs ++ ys))
-batches-joined xs ys = ap (judged (joinRefusals (totalsOf xs) (totalsOf ys))) (sym (totals-joined xs ys))
+pub batches_joined : (xs ys : List Frame)
+    → judged (join_refusals (totals_of xs) (totals_of ys)) (sums (totals_of xs) (totals_of ys)) ≡ judged (join_refusals (totals_of xs) (totals_of ys))
+    (totals_of (xs ++ ys))
+batches_joined xs ys = ap (judged (join_refusals (totals_of xs) (totals_of ys))) (sym (totals-joined xs ys))
 
 -- a sum passes its limit where the second number is more than what the first leaves
-pub past-limit : (a b limit : ℕ) → a ≤ limit → ltb (limit - a) b ≡ ltb limit (a + b)
-past-limit a b limit h = past (dec_lt limit (a + b))
+pub past_limit : (a b limit : ℕ) → a ≤ limit → ltb (limit - a) b ≡ ltb limit (a + b)
+past_limit a b limit h = past (dec_lt limit (a + b))
   where
     past : Dec (limit < a + b) → ltb (limit - a) b ≡ ltb limit (a + b)
     past (yes p) = rw (lt-ltb limit (a + b) p, lt-ltb (limit - a) b (omega arith))

@@ -2,14 +2,14 @@
 use Rattle.std.specs.Prelude.{ℕ, zero, suc, ◌/◌, ◌%◌}
 
 -- Euclid's division, at most n times: `proofs/Euclid.antt` says that this divides both and that every common divisor divides it
-unfoldable pub gcdWithin : ℕ → ℕ → ℕ → ℕ
-gcdWithin zero a b = a
-gcdWithin (suc n) a zero = a
-gcdWithin (suc n) a (suc b) = gcdWithin n (suc b) (a % suc b)
+unfoldable pub gcd_within : ℕ → ℕ → ℕ → ℕ
+gcd_within zero a b = a
+gcd_within (suc n) a zero = a
+gcd_within (suc n) a (suc b) = gcd_within n (suc b) (a % suc b)
 
 -- a division leaves less than it divided by, so b of them are enough
 unfoldable pub gcd : ℕ → ℕ → ℕ
-gcd a b = gcdWithin b a b
+gcd a b = gcd_within b a b
 
 pub record Fraction : Type 0 where
   pub over : ℕ

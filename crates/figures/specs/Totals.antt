@@ -9,21 +9,21 @@ use Rattle.figures.specs.declared.Summed.TheVariants as summed
 use Rattle.figures.specs.declared.Figure.{Figure}
 use Rattle.figures.specs.declared.Figure.TheVariants as figure
 
-abbrev pub summedOf : Summed → Outcome Totals
-summedOf (summed.Is t) = accepted t
-summedOf (summed.Refused r) = refused (number_of r)
+abbrev pub summed_of : Summed → Outcome Totals
+summed_of (summed.Is t) = accepted t
+summed_of (summed.Refused r) = refused (number_of r)
 
-abbrev pub figureOf : Figure → Outcome Fraction
-figureOf (figure.Fraction n d) = accepted (record { over = n; under = d })
-figureOf (figure.Refused r) = refused (number_of r)
+abbrev pub figure_of : Figure → Outcome Fraction
+figure_of (figure.Fraction n d) = accepted (record { over = n; under = d })
+figure_of (figure.Refused r) = refused (number_of r)
 
 -- "14 when a sum would pass its limit"
 abbrev pub passed : ℕ → ℕ → ℕ → Bool
 passed a b limit = ltb limit (a + b)
 
 -- "each up to 18,446,744,073,709,551,615 except frames, up to 4,294,967,295"
-abbrev pub joinRefusals : Totals → Totals → List Condition
-joinRefusals a b =
+abbrev pub join_refusals : Totals → Totals → List Condition
+join_refusals a b =
     (14 when passed a.frames b.frames 4294967295)
     ∷ (14 when passed a.clean b.clean 18446744073709551615)
     ∷ (14 when passed a.counts b.counts 18446744073709551615)
@@ -40,23 +40,23 @@ sums a b = record {
 }
 
 -- "15 when a fraction is asked of no frames"
-abbrev pub fractionRefusals : ℕ → List Condition
-fractionRefusals frames = (15 when eqb frames 0) ∷ []
+abbrev pub fraction_refusals : ℕ → List Condition
+fraction_refusals frames = (15 when eqb frames 0) ∷ []
 
 -- ---- the totals of frames
 
 -- what a frame adds: itself, itself if it is clean, its count and its rounds
-abbrev pub ofFrame : ℕ → ℕ → Bool → Totals
-ofFrame count rounds clean = record { frames = 1; clean = cond clean 1 0; counts = count; rounds = rounds }
+abbrev pub of_frame : ℕ → ℕ → Bool → Totals
+of_frame count rounds clean = record { frames = 1; clean = cond clean 1 0; counts = count; rounds = rounds }
 
 pub record Frame : Type 0 where
   pub count : ℕ
   pub rounds : ℕ
   pub clean : Bool
 
-abbrev pub nothingYet : Totals
-nothingYet = record { frames = 0; clean = 0; counts = 0; rounds = 0 }
+abbrev pub nothing_yet : Totals
+nothing_yet = record { frames = 0; clean = 0; counts = 0; rounds = 0 }
 
-unfoldable pub totalsOf : List Frame → Totals
-totalsOf [] = nothingYet
-totalsOf (f ∷ fs) = sums (ofFrame f.count f.rounds f.clean) (totalsOf fs)
+unfoldable pub totals_of : List Frame → Totals
+totals_of [] = nothing_yet
+totals_of (f ∷ fs) = sums (of_frame f.count f.rounds f.clean) (totals_of fs)

@@ -2,7 +2,7 @@
 ghost use Rattle.std.specs.Prelude.{◌≡◌};
 ghost use Rattle.refusal.specs.Outcome.{judged};
 ghost use Rattle.figures.specs.Fraction.{gcd, lowest};
-ghost use Rattle.figures.specs.Totals.{summedOf, figureOf, passed, joinRefusals, sums, ofFrame, fractionRefusals};
+ghost use Rattle.figures.specs.Totals.{summed_of, figure_of, passed, join_refusals, sums, of_frame, fraction_refusals};
 
 use refusal::Refusal;
 
@@ -43,7 +43,7 @@ fn passes(a: u64, b: u64, limit: u64) -> bool
 
 // The totals of the frames of both.
 pub fn join(a: Totals, b: Totals) -> Summed
-    ensures { summedOf result ≡ judged (joinRefusals a b) (sums a b) }
+    ensures { summed_of result ≡ judged (join_refusals a b) (sums a b) }
 {
     if passes(a.frames as u64, b.frames as u64, 0xFFFF_FFFF) {
         return Summed::Refused(Refusal::SumPastLimit);
@@ -67,7 +67,7 @@ pub fn join(a: Totals, b: Totals) -> Summed
 
 // The totals of one frame.
 pub fn of_frame(count: u16, rounds: u16, clean: bool) -> Totals
-    ensures { result ≡ ofFrame count rounds clean }
+    ensures { result ≡ of_frame count rounds clean }
 {
     let one: u64 = if clean { 1 } else { 0 };
     Totals {
@@ -96,7 +96,7 @@ fn gcd(a: u64, b: u64) -> u64
 
 // A number of so many frames, as a fraction in lowest terms.
 fn fraction(n: u64, frames: u32) -> Figure
-    ensures { figureOf result ≡ judged (fractionRefusals frames) (lowest n frames) }
+    ensures { figure_of result ≡ judged (fraction_refusals frames) (lowest n frames) }
 {
     if frames == 0 {
         return Figure::Refused(Refusal::NoFrames);
@@ -108,14 +108,14 @@ fn fraction(n: u64, frames: u32) -> Figure
 
 // The share of clean frames.
 pub fn clean_share(t: Totals) -> Figure
-    ensures { figureOf result ≡ judged (fractionRefusals t.frames) (lowest t.clean t.frames) }
+    ensures { figure_of result ≡ judged (fraction_refusals t.frames) (lowest t.clean t.frames) }
 {
     fraction(t.clean, t.frames)
 }
 
 // The mean count of a frame.
 pub fn mean_count(t: Totals) -> Figure
-    ensures { figureOf result ≡ judged (fractionRefusals t.frames) (lowest t.counts t.frames) }
+    ensures { figure_of result ≡ judged (fraction_refusals t.frames) (lowest t.counts t.frames) }
 {
     fraction(t.counts, t.frames)
 }

@@ -2,7 +2,7 @@
 use Rattle.std.specs.Prelude.{◌≡◌, Bool, false, not, ◌||◌, List, [], ◌∷◌, ℕ, eqb, ltb, length}
 use Rattle.refusal.specs.Outcome.{Condition, ◌when◌, Outcome, judged, kept}
 use Rattle.tanner.specs.Checks.{Word, Checks}
-use Rattle.filling.specs.Filling.{Setting, none, at, filledWord, filledPlaces, listed}
+use Rattle.filling.specs.Filling.{Setting, none, at, filled_word, filled_places, listed}
 use Rattle.filling.specs.declared.Next.{Next}
 use Rattle.filling.specs.declared.Next.TheVariants.{Nothing, At}
 
@@ -11,16 +11,16 @@ next_of Nothing = none
 next_of (At p b) = at p b
 
 -- "a byte is above 2"
-unfoldable pub aboveTwo : Word → Bool
-aboveTwo [] = false
-aboveTwo (b ∷ w) = ltb 2 b || aboveTwo w
+unfoldable pub above_two : Word → Bool
+above_two [] = false
+above_two (b ∷ w) = ltb 2 b || above_two w
 
 -- "a word of another length gets 4, a list of another length 8"; "After 8 in the order: 16 when a byte is above 2"
-abbrev pub wordRefusals : ℕ → Word → List ℕ → List Condition
-wordRefusals n word places = (4 when not (eqb (length word) n)) ∷ (8 when not (eqb (length places) n)) ∷ (16 when aboveTwo word) ∷ []
+abbrev pub word_refusals : ℕ → Word → List ℕ → List Condition
+word_refusals n word places = (4 when not (eqb (length word) n)) ∷ (8 when not (eqb (length places) n)) ∷ (16 when above_two word) ∷ []
 
 -- what is answered, and what the word and the list are afterwards, by the conditions and the checks: it "returns how many" bits it set
 abbrev pub FilledAs : List Condition → Checks → Word → List ℕ → Outcome ℕ → Word → List ℕ → Type 0
-FilledAs conditions cs word places answer wordAfter placesAfter =
-    (answer ≡ judged conditions (length (filledPlaces cs word)))
-    × ((wordAfter ≡ kept conditions word (filledWord cs word)) × (placesAfter ≡ kept conditions places (listed (filledPlaces cs word) places)))
+FilledAs conditions cs word places answer word_after places_after =
+    (answer ≡ judged conditions (length (filled_places cs word)))
+    × ((word_after ≡ kept conditions word (filled_word cs word)) × (places_after ≡ kept conditions places (listed (filled_places cs word) places)))

@@ -23,8 +23,8 @@ setting_of c w [] = none
 setting_of c w (p ∷ []) = at p (parity (others p c) w)
 setting_of c w (p ∷ (q ∷ us)) = none
 
-unfoldable pub settingIn : List ℕ → Word → Setting
-settingIn c w = setting_of c w (unknowns c w)
+unfoldable pub setting_in : List ℕ → Word → Setting
+setting_in c w = setting_of c w (unknowns c w)
 
 abbrev pub or_else : Setting → Setting → Setting
 or_else none s = s
@@ -33,7 +33,7 @@ or_else (at p b) s = at p b
 -- "It takes the lowest-numbered check with exactly one unknown bit"
 unfoldable pub lowest : Checks → Word → Setting
 lowest [] w = none
-lowest (c ∷ cs) w = or_else (settingIn c w) (lowest cs w)
+lowest (c ∷ cs) w = or_else (setting_in c w) (lowest cs w)
 
 -- the word after, and the positions set
 pub record Filled : Type 0 where
@@ -41,24 +41,24 @@ pub record Filled : Type 0 where
   pub places : List ℕ
 
 -- "sets that bit .. and begins again, until there is no such check", at most n times: the setting is the one that comes next
-unfoldable pub fillBy : ℕ → Checks → Setting → Word → Filled
-fillBy zero cs s w = record { word = w; places = [] }
-fillBy (suc n) cs none w = record { word = w; places = [] }
-fillBy (suc n) cs (at p b) w =
+unfoldable pub fill_by : ℕ → Checks → Setting → Word → Filled
+fill_by zero cs s w = record { word = w; places = [] }
+fill_by (suc n) cs none w = record { word = w; places = [] }
+fill_by (suc n) cs (at p b) w =
     let v = set w p b in
-    let rest = fillBy n cs (lowest cs v) v in
+    let rest = fill_by n cs (lowest cs v) v in
     record { word = rest.word; places = p ∷ rest.places }
 
 -- N times are enough, since each sets a bit that was unknown (`none-next` of the proofs)
 unfoldable pub filled : Checks → Word → Filled
-filled cs w = fillBy (length w) cs (lowest cs w) w
+filled cs w = fill_by (length w) cs (lowest cs w) w
 
-unfoldable pub filledWord : Checks → Word → Word
-filledWord cs w = (filled cs w).word
+unfoldable pub filled_word : Checks → Word → Word
+filled_word cs w = (filled cs w).word
 
 -- "It lists the positions it set, counted from 0, in the order it set them"
-unfoldable pub filledPlaces : Checks → Word → List ℕ
-filledPlaces cs w = (filled cs w).places
+unfoldable pub filled_places : Checks → Word → List ℕ
+filled_places cs w = (filled cs w).places
 
 -- "the list has N places of u16, and those past the last one set are unchanged"
 abbrev pub listed : List ℕ → List ℕ → List ℕ

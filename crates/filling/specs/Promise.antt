@@ -3,7 +3,7 @@ use Rattle.std.specs.Prelude.{◌≡◌, List, [], ℕ, ◌<◌, ◌≤◌, leng
 use Rattle.tanner.specs.Checks.{Word, Checks, count}
 use Rattle.tanner.specs.Flat.{places}
 use Rattle.lists.specs.Below.{Below}
-use Rattle.filling.specs.Filling.{filledWord, filledPlaces}
+use Rattle.filling.specs.Filling.{filled_word, filled_places}
 
 -- how often a position is named
 abbrev pub named : ℕ → List ℕ → ℕ
@@ -26,16 +26,16 @@ pub record Agrees (w v : Word) : Type 0 where
   pub known : (p : ℕ) → p < length w → (get_or w p 0 ≡ 2 → ⊥) → get_or w p 0 ≡ get_or v p 0
 
 pub record Fills (cs : Checks) (w : Word) : Type 0 where
-  pub long : length (filledWord cs w) ≡ length w
+  pub long : length (filled_word cs w) ≡ length w
   -- "Known bytes never change"
-  pub known : (p : ℕ) → (get_or w p 0 ≡ 2 → ⊥) → get_or (filledWord cs w) p 0 ≡ get_or w p 0
+  pub known : (p : ℕ) → (get_or w p 0 ≡ 2 → ⊥) → get_or (filled_word cs w) p 0 ≡ get_or w p 0
   -- "the positions it set": each was unknown and is a bit after, none is listed twice, and no other position changes
-  pub wereUnknown : (i : ℕ) → i < length (filledPlaces cs w) → get_or w (get_or (filledPlaces cs w) i 0) 0 ≡ 2
-  pub areBits : (i : ℕ) → i < length (filledPlaces cs w) → get_or (filledWord cs w) (get_or (filledPlaces cs w) i 0) 0 < 2
-  pub once : (p : ℕ) → named p (filledPlaces cs w) ≤ 1
-  pub unlisted : (p : ℕ) → named p (filledPlaces cs w) ≡ 0 → get_or (filledWord cs w) p 0 ≡ get_or w p 0
-  pub few : length (filledPlaces cs w) ≤ length w
+  pub were_unknown : (i : ℕ) → i < length (filled_places cs w) → get_or w (get_or (filled_places cs w) i 0) 0 ≡ 2
+  pub are_bits : (i : ℕ) → i < length (filled_places cs w) → get_or (filled_word cs w) (get_or (filled_places cs w) i 0) 0 < 2
+  pub once : (p : ℕ) → named p (filled_places cs w) ≤ 1
+  pub unlisted : (p : ℕ) → named p (filled_places cs w) ≡ 0 → get_or (filled_word cs w) p 0 ≡ get_or w p 0
+  pub few : length (filled_places cs w) ≤ length w
   -- "no check is left with exactly one unknown"
-  pub noneLeft : (c p : ℕ) → OnlyUnknown (get_or cs c []) (filledWord cs w) p → ⊥
+  pub none_left : (c p : ℕ) → OnlyUnknown (get_or cs c []) (filled_word cs w) p → ⊥
   -- "If any word of count 0 agrees with the known bits, each bit set is that word's, for every such word."
-  pub everyWord : (v : Word) → Agrees w v → count cs v ≡ 0 → Agrees (filledWord cs w) v
+  pub every_word : (v : Word) → Agrees w v → count cs v ≡ 0 → Agrees (filled_word cs w) v

@@ -3,8 +3,8 @@ ghost use Rattle.std.specs.Prelude.{◌≡◌, ◌<◌, length};
 ghost use Rattle.refusal.specs.Answers.{answer_of};
 ghost use Rattle.tanner.specs.Flat.{FlatChecks, rows_of};
 ghost use Rattle.lists.specs.Below.{Below};
-ghost use Rattle.filling.specs.Filling.{settingIn, lowest, filledWord, filledPlaces, listed};
-ghost use Rattle.filling.specs.Calls.{next_of, aboveTwo, wordRefusals, FilledAs};
+ghost use Rattle.filling.specs.Filling.{setting_in, lowest, filled_word, filled_places, listed};
+ghost use Rattle.filling.specs.Calls.{next_of, above_two, word_refusals, FilledAs};
 
 use refusal::{Answer, Refusal};
 
@@ -17,7 +17,7 @@ pub enum Next {
 
 // Whether a byte is above 2.
 fn above_two(word: &[u8]) -> bool
-    ensures { result ≡ aboveTwo word.now }
+    ensures { result ≡ above_two word.now }
 {
     let mut i = 0;
     while i < word.len() {
@@ -32,7 +32,7 @@ fn above_two(word: &[u8]) -> bool
 // The unknown bit of a check that has exactly one. All its bytes are XORed: the unknown one is 2, and has no part in the low bit.
 fn next_in(positions: &[u16], word: &[u8]) -> Next
     requires { Below (length word.now) positions.now }
-    ensures { next_of result ≡ settingIn positions.now word.now }
+    ensures { next_of result ≡ setting_in positions.now word.now }
 {
     let mut unknowns: usize = 0;
     let mut at: u16 = 0;
@@ -75,9 +75,9 @@ fn fill(starts: &[u16], flat: &[u16], word: &mut [u8], places: &mut [u16]) -> u1
     requires flat_checks { FlatChecks starts.now flat.now (length word.old) }
     requires places_len { length places.old ≡ length word.old }
     requires places_len_bound { length places.old < 65536 }
-    ensures value { result ≡ length (filledPlaces (rows_of starts.now flat.now) word.old) }
-    ensures word_after { word.new ≡ filledWord (rows_of starts.now flat.now) word.old }
-    ensures places_after { places.new ≡ listed (filledPlaces (rows_of starts.now flat.now) word.old) places.old }
+    ensures value { result ≡ length (filled_places (rows_of starts.now flat.now) word.old) }
+    ensures word_after { word.new ≡ filled_word (rows_of starts.now flat.now) word.old }
+    ensures places_after { places.new ≡ listed (filled_places (rows_of starts.now flat.now) word.old) places.old }
 {
     let mut n = 0;
     while n < places.len() {
@@ -102,7 +102,7 @@ pub fn fill_over(
 ) -> Answer
     requires flat_checks { FlatChecks starts.now flat.now n }
     requires n_bound { n < 65536 }
-    ensures { FilledAs (wordRefusals n word.old places.old) (rows_of starts.now flat.now)
+    ensures { FilledAs (word_refusals n word.old places.old) (rows_of starts.now flat.now)
         word.old places.old (answer_of result) word.new places.new }
 {
     if word.len() != n {

@@ -4,15 +4,15 @@ use mathlib.Core.List.{List}
 use Prim.Native.Nat.{ℕ}
 use lib.Ieee.{Float}
 use lib.ListN.{take}
-use Rattle.tanner.specs.Checks.{Word, firstUnsatisfied}
+use Rattle.tanner.specs.Checks.{Word, first_unsatisfied}
 use Rattle.tanner.specs.Found.{first_of}
 use Rattle.tanner.specs.declared.FirstCheck.{FirstCheck}
-use Rattle.numbered.specs.Codes.{sizeK}
+use Rattle.numbered.specs.Codes.{size_k}
 use Rattle.first_reason.specs.declared.Reason.TheVariants.{Clean}
-use Rattle.numbered.specs.Codes.{checksBy}
-use Rattle.first_reason.specs.Reasons.{firstNan, nanOr, checkOr, checksumOr, reasonFor}
+use Rattle.numbered.specs.Codes.{checks_by}
+use Rattle.first_reason.specs.Reasons.{first_nan, nan_or, check_or, checksum_or, reason_for}
 
-pub reason-met : (code : ℕ) (first : FirstCheck) (values : List Float) (word : Word) → first_of first ≡ firstUnsatisfied (checksBy code) word
-    → nanOr (firstNan 0 values) (checkOr (first_of first) (checksumOr code (take (sizeK code) word) Clean)) ≡ reasonFor code values word
-unfolding reasonFor
+pub reason-met : (code : ℕ) (first : FirstCheck) (values : List Float) (word : Word) → first_of first ≡ first_unsatisfied (checks_by code) word
+    → nan_or (first_nan 0 values) (check_or (first_of first) (checksum_or code (take (size_k code) word) Clean)) ≡ reason_for code values word
+unfolding reason_for
 reason-met code first values word e = rw e

@@ -11,19 +11,19 @@ use lib.ListN.{length, get_or, drop}
 use lib.Seq.{drop-cons, drop-length}
 use Rattle.clean.proofs.Steps.{differs, same}
 use Rattle.first_reason.specs.declared.FirstNan.TheVariants.{At, Absent}
-use Rattle.first_reason.specs.Reasons.{firstNan}
+use Rattle.first_reason.specs.Reasons.{first_nan}
 
 module _ (vs : List Float) (i : ℕ) (h : i < length vs) where
-  pub nan-here : Ieee.ne (get_or vs i nan) (get_or vs i nan) ≡ true → At i ≡ firstNan i (drop i vs)
-  unfolding firstNan
+  pub nan-here : Ieee.ne (get_or vs i nan) (get_or vs i nan) ≡ true → At i ≡ first_nan i (drop i vs)
+  unfolding first_nan
   nan-here d = rw (drop-cons vs i nan h, differs (get_or vs i nan) d)
 
-  pub nan-later : Ieee.ne (get_or vs i nan) (get_or vs i nan) ≡ false → firstNan i (drop i vs) ≡ firstNan (i + 1) (drop (i + 1) vs)
-  unfolding firstNan
+  pub nan-later : Ieee.ne (get_or vs i nan) (get_or vs i nan) ≡ false → first_nan i (drop i vs) ≡ first_nan (i + 1) (drop (i + 1) vs)
+  unfolding first_nan
   nan-later d = rw (add-one i, drop-cons vs i nan h, same (get_or vs i nan) d)
 
-pub nan-nowhere : (vs : List Float) (i : ℕ) → length vs ≤ i → i ≤ length vs → Absent ≡ firstNan i (drop i vs)
-unfolding firstNan
-nan-nowhere vs i h k =
+pub nan_nowhere : (vs : List Float) (i : ℕ) → length vs ≤ i → i ≤ length vs → Absent ≡ first_nan i (drop i vs)
+unfolding first_nan
+nan_nowhere vs i h k =
     let all : i ≡ length vs = omega arith in
     rw (all, drop-length vs)

@@ -4,11 +4,11 @@ use Rattle.std.specs.Prelude.{◌≡◌, true, false, List, ℕ, ◌<◌, Float,
 use Rattle.std.specs.Float.Ieee.{is_nan}
 use Rattle.std.specs.Float.{nan}
 use Rattle.tanner.specs.Checks.{Word, check, none, parity, count, FirstIs}
-use Rattle.numbered.specs.Codes.{sizeK}
-use Rattle.clean.specs.Clean.{payloadChecksum, carriedChecksum, frameClean}
+use Rattle.numbered.specs.Codes.{size_k}
+use Rattle.clean.specs.Clean.{payload_checksum, carried_checksum, frame_clean}
 use Rattle.first_reason.specs.declared.Reason.{Reason}
 use Rattle.first_reason.specs.declared.Reason.TheVariants as reason
-use Rattle.numbered.specs.Codes.{checksBy}
+use Rattle.numbered.specs.Codes.{checks_by}
 
 -- "`nan` and the lowest such position within the frame"
 pub record LowestNan (values : List Float) (p : ℕ) : Type 0 where
@@ -21,20 +21,20 @@ NoNan values = (j : ℕ) → j < length values → is_nan (get_or values j nan) 
 
 -- "the lowest unsatisfied check's number"
 abbrev pub LowestCheck : ℕ → Word → ℕ → Type 0
-LowestCheck code word c = FirstIs (λ r. parity r word) (checksBy code) (check c)
+LowestCheck code word c = FirstIs (λ r. parity r word) (checks_by code) (check c)
 
 abbrev pub AllSatisfied : ℕ → Word → Type 0
-AllSatisfied code word = FirstIs (λ r. parity r word) (checksBy code) none
+AllSatisfied code word = FirstIs (λ r. parity r word) (checks_by code) none
 
 -- clean by change request N2: by its count, its values and, for code 3, the checksum of its message bits
 abbrev pub IsClean : ℕ → List Float → Word → Type 0
-IsClean code values word = frameClean code values (count (checksBy code) word) (take (sizeK code) word) ≡ true
+IsClean code values word = frame_clean code values (count (checks_by code) word) (take (size_k code) word) ≡ true
 
 -- a reason that holds of a frame of that code with these values and this word, no earlier one holding
 pub data Holds (code : ℕ) (values : List Float) (word : Word) : Reason → Type 0 where
-  byNan : (p : ℕ) → LowestNan values p → Holds code values word (reason.Nan p)
-  byCheck : (c : ℕ) → NoNan values → LowestCheck code word c → Holds code values word (reason.Check c)
-  byChecksum : (carried computed : ℕ) → NoNan values → AllSatisfied code word → code ≡ 3
-      → carried ≡ carriedChecksum (take (sizeK code) word) → computed ≡ payloadChecksum (take (sizeK code) word) → (carried ≡ computed → ⊥)
+  by_nan : (p : ℕ) → LowestNan values p → Holds code values word (reason.Nan p)
+  by_check : (c : ℕ) → NoNan values → LowestCheck code word c → Holds code values word (reason.Check c)
+  by_checksum : (carried computed : ℕ) → NoNan values → AllSatisfied code word → code ≡ 3
+      → carried ≡ carried_checksum (take (size_k code) word) → computed ≡ payload_checksum (take (size_k code) word) → (carried ≡ computed → ⊥)
       → Holds code values word (reason.Checksum carried computed)
-  isClean : IsClean code values word → Holds code values word reason.Clean
+  is_clean : IsClean code values word → Holds code values word reason.Clean

@@ -1,8 +1,8 @@
 // The first reason that applies of a frame, from its values and its word: a NaN among its values, an unsatisfied check or a wrong checksum.
 ghost use Rattle.std.specs.Prelude.{◌≡◌, ◌≤◌, length, take};
 ghost use Rattle.tanner.specs.Found.{first_of};
-ghost use Rattle.numbered.specs.Codes.{sizeK};
-ghost use Rattle.first_reason.specs.Reasons.{firstNan, nanOr, checkOr, checksumOr};
+ghost use Rattle.numbered.specs.Codes.{size_k};
+ghost use Rattle.first_reason.specs.Reasons.{first_nan, nan_or, check_or, checksum_or};
 
 use tanner::FirstCheck;
 
@@ -26,7 +26,7 @@ pub enum FirstNan {
 // A NaN alone differs from itself.
 fn first_nan(values: &[f32]) -> FirstNan
     requires { length values.now ≤ 65536 }
-    ensures { result ≡ firstNan 0 values.now }
+    ensures { result ≡ first_nan 0 values.now }
 {
     let mut i = 0;
     while i < values.len() {
@@ -42,7 +42,7 @@ fn first_nan(values: &[f32]) -> FirstNan
 // What the 91 bits of a codeword of (174,91) say.
 fn checksum_reason(bits: &[u8]) -> Reason
     requires { length bits.now ≡ 91 }
-    ensures { result ≡ checksumOr 3 bits.now Reason.Clean }
+    ensures { result ≡ checksum_or 3 bits.now Reason.Clean }
 {
     let both = clean::both_checksums(bits);
     let carried = both.carried;
@@ -58,7 +58,7 @@ pub fn reason_of(code: u32, first: FirstCheck, values: &[f32], word: &[u8]) -> R
     requires values_len_bound { length values.now ≤ 65536 }
     requires in_bounds { code ≡ 3 → 91 ≤ length word.now }
     ensures { result
-        ≡ nanOr (firstNan 0 values.now) (checkOr (first_of first) (checksumOr code (take (sizeK code) word.now) Reason.Clean)) }
+        ≡ nan_or (first_nan 0 values.now) (check_or (first_of first) (checksum_or code (take (size_k code) word.now) Reason.Clean)) }
 {
     if let FirstNan::At(p) = first_nan(values) {
         return Reason::Nan(p);

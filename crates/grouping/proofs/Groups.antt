@@ -9,24 +9,24 @@ use native.Mathlib.Omega.{arith}
 use borrow.Rule.Slice.PartMut.{post_of, put_mid, mid_len, same_len_mid, drop_put}
 use lib.ListN.{length, get_or, take, drop, replicate, length-replicate, length-drop, drop_of_length-le, take-append-drop}
 use lib.Seq.{drop-cons, drop-drop, length-take-le, take-append-add, take-append_seam, take_at, drop-append-add}
-use Rattle.grouping.specs.Grouping.{total, all, groupBits, delivered}
+use Rattle.grouping.specs.Grouping.{total, all, group_bits, delivered}
 
 -- ---- one group
 
 pub all-filled : (v : ℕ) (bits : List ℕ) (i : ℕ) → length bits ≡ i → replicate i v ++ drop i bits ≡ replicate (length bits) v
 all-filled v bits i e = rw (drop_of_length-le bits {i = i} (omega arith), append-nil, e) refl
 
-pub held : (t : Bool) (bits : List ℕ) → t ≡ true → bits ≡ groupBits t bits
+pub held : (t : Bool) (bits : List ℕ) → t ≡ true → bits ≡ group_bits t bits
 held true bits e = refl
 held false bits e = cc
 
-pub withheld : (t : Bool) (bits : List ℕ) → t ≡ false → replicate (length bits) 255 ≡ groupBits t bits
+pub withheld : (t : Bool) (bits : List ℕ) → t ≡ false → replicate (length bits) 255 ≡ group_bits t bits
 withheld true bits e = cc
 withheld false bits e = refl
 
-pub group-length : (t : Bool) (bits : List ℕ) → length (groupBits t bits) ≡ length bits
-group-length true bits = refl
-group-length false bits = length-replicate {A = ℕ} (length bits) 255
+pub group_length : (t : Bool) (bits : List ℕ) → length (group_bits t bits) ≡ length bits
+group_length true bits = refl
+group_length false bits = length-replicate {A = ℕ} (length bits) 255
 
 -- ---- the groups from group g on, which take the frames from place `at` on
 
@@ -44,8 +44,8 @@ module _ (k : ℕ) (sizes : List ℕ) (clean : List Bool) (at g : ℕ) (h : g < 
   abbrev to : ℕ
   to = (at + n) * k
 
-  pub frames-fit : at + n ≤ length clean
-  frames-fit = omega (arith, fits, total-next sizes g h)
+  pub frames_fit : at + n ≤ length clean
+  frames_fit = omega (arith, fits, total-next sizes g h)
 
   pub rest-fits : at + n + total (drop (g + 1) sizes) ≤ length clean
   rest-fits = omega (arith, fits, total-next sizes g h)
@@ -55,7 +55,7 @@ module _ (k : ℕ) (sizes : List ℕ) (clean : List Bool) (at g : ℕ) (h : g < 
 
   pub bytes_fit : (bits : List ℕ) → length bits ≡ length clean * k → (from ≤ to) × (to ≤ length bits)
   bytes_fit bits size =
-      let most = mul-le-mul {n₁ = at + n} {m₁ = k} {n₂ = length clean} {m₂ = k} frames-fit (omega arith) in
+      let most = mul-le-mul {n₁ = at + n} {m₁ = k} {n₂ = length clean} {m₂ = k} frames_fit (omega arith) in
       (omega (arith, span), omega (arith, size, most))
 
   -- the group's bytes as they are, and whether it is delivered
@@ -66,12 +66,12 @@ module _ (k : ℕ) (sizes : List ℕ) (clean : List Bool) (at g : ℕ) (h : g < 
   ready = all (take (at + n - at) (drop at clean))
 
   -- a group's bytes put in their place
-  module _ (bits part : List ℕ) (size : length bits ≡ length clean * k) (new : part ≡ groupBits ready (own bits)) where
+  module _ (bits part : List ℕ) (size : length bits ≡ length clean * k) (new : part ≡ group_bits ready (own bits)) where
     abbrev next : List ℕ
     next = put_mid from (to - from) bits part
 
     part_length : length part ≡ to - from
-    part_length = ap length new ∙ group-length ready (own bits) ∙ mid_len from to bits (bytes_fit bits size).1
+    part_length = ap length new ∙ group_length ready (own bits) ∙ mid_len from to bits (bytes_fit bits size).1
 
     pub next-length : length next ≡ length clean * k
     next-length = same_len_mid from (to - from) bits part (part_length ∙ sym (mid_len from to bits (bytes_fit bits size).1)) ∙ size
@@ -94,7 +94,7 @@ module _ (k : ℕ) (sizes : List ℕ) (clean : List Bool) (at g : ℕ) (h : g < 
     next-group all-bits so =
         let m : at + n - at ≡ n = omega arith in
         let bytes : to - from ≡ n * k = omega (arith, span) in
-        let group = groupBits (all (take n (drop at clean))) (take (n * k) (drop from bits)) in
+        let group = group_bits (all (take n (drop at clean))) (take (n * k) (drop from bits)) in
         let rest = delivered k (drop (suc g) sizes) (drop n (drop at clean)) (drop (n * k) (drop from bits)) in
         let one : part ≡ group = rw (m, bytes) at new in
         let ends : drop (n * k) (drop from bits) ≡ drop to bits = drop-drop (n * k) from bits ∙ ap (λ (e : ℕ). drop e bits) (sym span) in
@@ -113,26 +113,26 @@ all_closed k sizes clean before bits at g h so =
 
 -- ---- group g among all, whose bytes are within the lists
 
-group-whole : (k n : ℕ) (t : Bool) (bits : List ℕ) → n * k ≤ length bits → length (groupBits t (take (n * k) bits)) ≡ n * k
-group-whole k n t bits h = group-length t (take (n * k) bits) ∙ length-take-le (n * k) bits h
+group_whole : (k n : ℕ) (t : Bool) (bits : List ℕ) → n * k ≤ length bits → length (group_bits t (take (n * k) bits)) ≡ n * k
+group_whole k n t bits h = group_length t (take (n * k) bits) ∙ length-take-le (n * k) bits h
 
 pub group_at : (k : ℕ) (sizes : List ℕ) (clean : List Bool) (bits : List ℕ) (g : ℕ) → g < length sizes → total sizes * k ≤ length bits
     → let n = get_or sizes g 0 in
     let s = total (take g sizes) in
-    take (n * k) (drop (s * k) (delivered k sizes clean bits)) ≡ groupBits (all (take n (drop s clean))) (take (n * k) (drop (s * k) bits))
+    take (n * k) (drop (s * k) (delivered k sizes clean bits)) ≡ group_bits (all (take n (drop s clean))) (take (n * k) (drop (s * k) bits))
 unfolding total delivered
 group_at k [] clean bits g h fits = absurd (omega arith)
 group_at k (n ∷ ns) clean bits zero h fits =
-    let own = groupBits (all (take n clean)) (take (n * k) bits) in
+    let own = group_bits (all (take n clean)) (take (n * k) bits) in
     let rest = delivered k ns (drop n clean) (drop (n * k) bits) in
-    rw zero-mul (take_at own rest (n * k) (group-whole k n (all (take n clean)) bits (omega (arith, fits, add-mul n (total ns) k))))
+    rw zero-mul (take_at own rest (n * k) (group_whole k n (all (take n clean)) bits (omega (arith, fits, add-mul n (total ns) k))))
 group_at k (n ∷ ns) clean bits (suc g) h fits =
-    let own = groupBits (all (take n clean)) (take (n * k) bits) in
+    let own = group_bits (all (take n clean)) (take (n * k) bits) in
     let rest = delivered k ns (drop n clean) (drop (n * k) bits) in
     let m = get_or ns g 0 in
     let t = total (take g ns) in
     let span = add-mul n (total ns) k in
-    let size = group-whole k n (all (take n clean)) bits (omega (arith, fits, span)) in
+    let size = group_whole k n (all (take n clean)) bits (omega (arith, fits, span)) in
     let e : (n + t) * k ≡ length own + t * k = omega (arith, size, add-mul n t k) in
     ap (λ (i : ℕ). take (m * k) (drop i (own ++ rest))) e
     ∙ ap (take (m * k)) (drop-append-add own rest (t * k))

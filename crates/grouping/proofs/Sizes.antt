@@ -13,19 +13,19 @@ use lib.ListN.{length, get_or, take, drop, drop_of_length-le}
 use lib.Seq.{drop-cons}
 use Rattle.refusal.specs.Outcome.{refused}
 use Rattle.refusal.proofs.Judged.{verdict, nothing, passed-by}
-use Rattle.grouping.specs.Grouping.{someZero, total, sizeRefusals}
+use Rattle.grouping.specs.Grouping.{some_zero, total, size_refusals}
 
 -- the sizes are none of groups that take so many frames
 abbrev pub wrong : List ℕ → ℕ → Bool
-wrong ns left = someZero ns || not (eqb (total ns) left)
+wrong ns left = some_zero ns || not (eqb (total ns) left)
 
-wrong-zero : (ns : List ℕ) (left n : ℕ) → n ≡ 0 → wrong (n ∷ ns) left ≡ true
-unfolding someZero total
-wrong-zero ns left n e = simp (eq-eqb n 0 e)
+wrong_zero : (ns : List ℕ) (left n : ℕ) → n ≡ 0 → wrong (n ∷ ns) left ≡ true
+unfolding some_zero total
+wrong_zero ns left n e = simp (eq-eqb n 0 e)
 
-wrong-past : (ns : List ℕ) (left n : ℕ) → left < n → wrong (n ∷ ns) left ≡ true
-unfolding someZero total
-wrong-past ns left n h = simp (ne_eqb (n + total ns) left (λ e. omega arith)) (or-true (eqb n 0 || someZero ns))
+wrong_past : (ns : List ℕ) (left n : ℕ) → left < n → wrong (n ∷ ns) left ≡ true
+unfolding some_zero total
+wrong_past ns left n h = simp (ne_eqb (n + total ns) left (λ e. omega arith)) (or-true (eqb n 0 || some_zero ns))
 
 same-eqb : (a b c d : ℕ) → (a ≡ b → c ≡ d) → (c ≡ d → a ≡ b) → eqb a b ≡ eqb c d
 same-eqb a b c d f g = by (eqb a b) refl
@@ -34,29 +34,29 @@ same-eqb a b c d f g = by (eqb a b) refl
     by true e = sym (eq-eqb c d (f (eqb-true a b e)))
     by false e = sym (ne_eqb c d (λ q. eqb-false a b e (g q)))
 
-wrong-next : (ns : List ℕ) (left n : ℕ) → (n ≡ 0 → ⊥) → n ≤ left → wrong (n ∷ ns) left ≡ wrong ns (left - n)
-unfolding someZero total
-wrong-next ns left n z h =
+wrong_next : (ns : List ℕ) (left n : ℕ) → (n ≡ 0 → ⊥) → n ≤ left → wrong (n ∷ ns) left ≡ wrong ns (left - n)
+unfolding some_zero total
+wrong_next ns left n z h =
     simp (ne_eqb n 0 z, same-eqb (n + total ns) left (total ns) (left - n) (λ e. omega arith) (λ e. omega arith))
 
-wrong-left : (left : ℕ) → 0 < left → wrong [] left ≡ true
-unfolding someZero total
-wrong-left left h = simp (ne_eqb 0 left (λ e. omega arith))
+wrong_left : (left : ℕ) → 0 < left → wrong [] left ≡ true
+unfolding some_zero total
+wrong_left left h = simp (ne_eqb 0 left (λ e. omega arith))
 
 right-none : (left : ℕ) → left ≤ 0 → wrong [] left ≡ false
-unfolding someZero total
+unfolding some_zero total
 right-none left h = let z : 0 ≡ left = omega arith in simp (eq-eqb 0 left z)
 
 -- ---- the sizes from place i on, with the frames that are left for them
 
-judged-wrong : (sizes : List ℕ) (frames : ℕ) (t : Bool) → 0 < length sizes → wrong sizes frames ≡ t
-    → verdict (sizeRefusals frames sizes) ≡ cond t (refused 20) nothing
-judged-wrong [] frames t h e = absurd (omega arith)
-judged-wrong (n ∷ ns) frames t h e = rw e
+judged_wrong : (sizes : List ℕ) (frames : ℕ) (t : Bool) → 0 < length sizes → wrong sizes frames ≡ t
+    → verdict (size_refusals frames sizes) ≡ cond t (refused 20) nothing
+judged_wrong [] frames t h e = absurd (omega arith)
+judged_wrong (n ∷ ns) frames t h e = rw e
 
-pub no-list : (sizes : List ℕ) (frames : ℕ) → length sizes ≡ 0 → verdict (sizeRefusals frames sizes) ≡ nothing
-no-list [] frames h = refl
-no-list (n ∷ ns) frames h = absurd (omega arith)
+pub no_list : (sizes : List ℕ) (frames : ℕ) → length sizes ≡ 0 → verdict (size_refusals frames sizes) ≡ nothing
+no_list [] frames h = refl
+no_list (n ∷ ns) frames h = absurd (omega arith)
 
 module _ (sizes : List ℕ) (frames i left : ℕ) (rest : wrong sizes frames ≡ wrong (drop i sizes) left) where
   abbrev n : ℕ
@@ -65,53 +65,53 @@ module _ (sizes : List ℕ) (frames i left : ℕ) (rest : wrong sizes frames ≡
   begins : i < length sizes → wrong sizes frames ≡ wrong (n ∷ drop (suc i) sizes) left
   begins h = rest ∙ ap (λ (l : List ℕ). wrong l left) (drop-cons sizes i 0 h)
 
-  pub refused-zero : i < length sizes → n ≡ 0 → verdict (sizeRefusals frames sizes) ≡ refused 20
-  refused-zero h e = judged-wrong sizes frames true (omega arith) (begins h ∙ wrong-zero (drop (suc i) sizes) left n e)
+  pub refused-zero : i < length sizes → n ≡ 0 → verdict (size_refusals frames sizes) ≡ refused 20
+  refused-zero h e = judged_wrong sizes frames true (omega arith) (begins h ∙ wrong_zero (drop (suc i) sizes) left n e)
 
-  pub refused-past : i < length sizes → left < n → verdict (sizeRefusals frames sizes) ≡ refused 20
-  refused-past h e = judged-wrong sizes frames true (omega arith) (begins h ∙ wrong-past (drop (suc i) sizes) left n e)
+  pub refused-past : i < length sizes → left < n → verdict (size_refusals frames sizes) ≡ refused 20
+  refused-past h e = judged_wrong sizes frames true (omega arith) (begins h ∙ wrong_past (drop (suc i) sizes) left n e)
 
   pub rest-next : i < length sizes → (n ≡ 0 → ⊥) → n ≤ left → wrong sizes frames ≡ wrong (drop (i + 1) sizes) (left - n)
-  rest-next h z e = rw add-one (begins h ∙ wrong-next (drop (suc i) sizes) left n z e)
+  rest-next h z e = rw add-one (begins h ∙ wrong_next (drop (suc i) sizes) left n z e)
 
   ended : length sizes ≤ i → wrong sizes frames ≡ wrong [] left
   ended h = rest ∙ ap (λ (l : List ℕ). wrong l left) (drop_of_length-le sizes {i = i} h)
 
-  pub refused-left : 0 < length sizes → length sizes ≤ i → 0 < left → verdict (sizeRefusals frames sizes) ≡ refused 20
-  refused-left s h e = judged-wrong sizes frames true s (ended h ∙ wrong-left left e)
+  pub refused-left : 0 < length sizes → length sizes ≤ i → 0 < left → verdict (size_refusals frames sizes) ≡ refused 20
+  refused-left s h e = judged_wrong sizes frames true s (ended h ∙ wrong_left left e)
 
-  pub all-taken : 0 < length sizes → length sizes ≤ i → left ≤ 0 → verdict (sizeRefusals frames sizes) ≡ nothing
-  all-taken s h e = judged-wrong sizes frames false s (ended h ∙ right-none left e)
+  pub all-taken : 0 < length sizes → length sizes ≤ i → left ≤ 0 → verdict (size_refusals frames sizes) ≡ nothing
+  all-taken s h e = judged_wrong sizes frames false s (ended h ∙ right-none left e)
 
 -- ---- sizes that are accepted
 
 -- none is 0, and they add up to the frame count
 pub record Right (sizes : List ℕ) (frames : ℕ) : Type 0 where
-  pub no_zero : someZero sizes ≡ false
+  pub no_zero : some_zero sizes ≡ false
   pub adds-up : total sizes ≡ frames
 
-pub sizes-right : (sizes : List ℕ) (frames : ℕ) → 0 < length sizes → verdict (sizeRefusals frames sizes) ≡ nothing → Right sizes frames
-sizes-right [] frames h e = absurd (omega arith)
-sizes-right (n ∷ ns) frames h e =
+pub sizes_right : (sizes : List ℕ) (frames : ℕ) → 0 < length sizes → verdict (size_refusals frames sizes) ≡ nothing → Right sizes frames
+sizes_right [] frames h e = absurd (omega arith)
+sizes_right (n ∷ ns) frames h e =
     let sizes = n ∷ ns in
-    let zero = someZero sizes in
+    let zero = some_zero sizes in
     let same = eqb (total sizes) frames in
     let f = (passed-by (wrong sizes frames) 20 nothing e).not-held in
     let both = (or-is-false zero (not same)).0 f in
     record { no_zero = both.0; adds-up = eqb-true (total sizes) frames (not-false same both.1) }
 
 -- no list takes no frame
-pub total-fits : (sizes : List ℕ) (frames : ℕ) → verdict (sizeRefusals frames sizes) ≡ nothing → total sizes ≤ frames
+pub total-fits : (sizes : List ℕ) (frames : ℕ) → verdict (size_refusals frames sizes) ≡ nothing → total sizes ≤ frames
 unfolding total
 total-fits [] frames e = omega arith
-total-fits (n ∷ ns) frames e = omega (arith, (sizes-right (n ∷ ns) frames (omega arith) e).adds-up)
+total-fits (n ∷ ns) frames e = omega (arith, (sizes_right (n ∷ ns) frames (omega arith) e).adds-up)
 
 -- of group g: its size is not 0, and its frames are among those that the sizes take
-pub size-some : (sizes : List ℕ) (g : ℕ) → someZero sizes ≡ false → g < length sizes → 0 < get_or sizes g 0
-unfolding someZero
+pub size-some : (sizes : List ℕ) (g : ℕ) → some_zero sizes ≡ false → g < length sizes → 0 < get_or sizes g 0
+unfolding some_zero
 size-some [] g z h = absurd (omega arith)
-size-some (n ∷ ns) zero z h = pos_of_ne-zero (eqb-false n 0 ((or-is-false (eqb n 0) (someZero ns)).0 z).0)
-size-some (n ∷ ns) (suc g) z h = size-some ns g ((or-is-false (eqb n 0) (someZero ns)).0 z).1 (omega arith)
+size-some (n ∷ ns) zero z h = pos_of_ne-zero (eqb-false n 0 ((or-is-false (eqb n 0) (some_zero ns)).0 z).0)
+size-some (n ∷ ns) (suc g) z h = size-some ns g ((or-is-false (eqb n 0) (some_zero ns)).0 z).1 (omega arith)
 
 pub span_fits : (sizes : List ℕ) (g : ℕ) → g < length sizes → total (take g sizes) + get_or sizes g 0 ≤ total sizes
 unfolding total

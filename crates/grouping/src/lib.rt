@@ -1,8 +1,8 @@
 // Groups of frames that belong together: the sizes that a call hands over, and the bit bytes of the groups, delivered whole or withheld.
 ghost use Rattle.std.specs.Prelude.{◌≡◌, ◌*◌, ◌≤◌, length, replicate};
 ghost use Rattle.refusal.specs.Outcome.{judged};
-ghost use Rattle.refusal.specs.Answers.{statusOf};
-ghost use Rattle.grouping.specs.Grouping.{sizeRefusals, total, all, groupBits, delivered};
+ghost use Rattle.refusal.specs.Answers.{status_of};
+ghost use Rattle.grouping.specs.Grouping.{size_refusals, total, all, group_bits, delivered};
 
 use refusal::{Refusal, Status};
 
@@ -10,7 +10,7 @@ use refusal::{Refusal, Status};
 
 // Whether the sizes are of groups that take so many frames: each is compared with the frames that are left, so that no sum can wrap.
 pub fn sizes_fault(frames: usize, sizes: &[u32]) -> Status
-    ensures { statusOf result ≡ judged (sizeRefusals frames sizes.now) tt }
+    ensures { status_of result ≡ judged (size_refusals frames sizes.now) tt }
 {
     if sizes.len() == 0 {
         return Status::Done;
@@ -63,7 +63,7 @@ fn withhold(bits: &mut [u8])
 
 // A group's bytes: as they are where it is delivered, and 255 otherwise.
 fn close_group(deliver: bool, bits: &mut [u8])
-    ensures { bits.new ≡ groupBits deliver bits.old }
+    ensures { bits.new ≡ group_bits deliver bits.old }
 {
     if !deliver {
         withhold(bits);

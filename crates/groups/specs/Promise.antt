@@ -4,19 +4,19 @@ use Rattle.std.specs.Prelude.{◌≡◌, Bool, true, false, List, [], ℕ, ◌+�
 use Rattle.refusal.specs.Outcome.{Outcome, accepted}
 use Rattle.lists.specs.Below.{Below}
 use Rattle.softmath.specs.declared.DecodeRule.{DecodeRule}
-use Rattle.rules.specs.Rules.{ruleOf}
-use Rattle.batch.specs.Codes.{sizeK}
+use Rattle.rules.specs.Rules.{rule_of}
+use Rattle.batch.specs.Codes.{size_k}
 use Rattle.batch.specs.Calls.{Lent, Batch, frames, written}
 use Rattle.batch.specs.Calls as batch
 use Rattle.grouping.specs.Grouping.{total, all}
-use Rattle.groups.specs.Groups.{Answered, cleanList}
+use Rattle.groups.specs.Groups.{Answered, clean_list}
 
 -- ---- no list
 
 -- "An empty list is no list": a call with it answers and leaves what the batch does, and nothing else
 pub record NoList (b : Batch) (answer : Outcome Unit) (left : Lent) : Type 0 where
-  pub isBatch : Answered b [] answer left → batch.Answered b answer left
-  pub fromBatch : batch.Answered b answer left → Answered b [] answer left
+  pub is_batch : Answered b [] answer left → batch.Answered b answer left
+  pub from_batch : batch.Answered b answer left → Answered b [] answer left
 
 -- ---- a call, and its groups
 
@@ -44,17 +44,17 @@ values_of c g i = get_or (frames c.handed) (start_of c g + i) []
 
 -- its bytes among the bit bytes of all frames
 abbrev pub bytes_of : GroupCall → ℕ → List ℕ → List ℕ
-bytes_of c g bits = let k = sizeK c.handed.code in take (size_of c g * k) (drop (start_of c g * k) bits)
+bytes_of c g bits = let k = size_k c.handed.code in take (size_of c g * k) (drop (start_of c g * k) bits)
 
 -- whether "all its frames are clean"; its bytes as the call left them, and before the overwriting
-unfoldable pub isDelivered : GroupCall → ℕ → Bool
-isDelivered c g = all (take (size_of c g) (drop (start_of c g) (cleanList c.handed (written c.handed))))
+unfoldable pub is_delivered : GroupCall → ℕ → Bool
+is_delivered c g = all (take (size_of c g) (drop (start_of c g) (clean_list c.handed (written c.handed))))
 
 abbrev pub bits_of : GroupCall → ℕ → List ℕ
 bits_of c g = bytes_of c g c.left.bits
 
-abbrev pub bitsBefore : GroupCall → ℕ → List ℕ
-bitsBefore c g = bytes_of c g (written c.handed).bits
+abbrev pub bits_before : GroupCall → ℕ → List ℕ
+bits_before c g = bytes_of c g (written c.handed).bits
 
 -- ---- before the overwriting
 
@@ -74,29 +74,29 @@ Before c = Accepted c → batch.Answered c.handed c.answer (before c)
 -- 255 or not, tells a caller which of the two it is.
 pub record AllOrNothing (c : GroupCall) (g : ℕ) : Type 0 where
   pub some : 0 < length (bits_of c g)
-  pub whole : isDelivered c g ≡ true → bits_of c g ≡ bitsBefore c g
-  pub areBits : isDelivered c g ≡ true → Below 2 (bits_of c g)
-  pub withheld : isDelivered c g ≡ false → bits_of c g ≡ replicate (size_of c g * sizeK c.handed.code) 255
+  pub whole : is_delivered c g ≡ true → bits_of c g ≡ bits_before c g
+  pub are_bits : is_delivered c g ≡ true → Below 2 (bits_of c g)
+  pub withheld : is_delivered c g ≡ false → bits_of c g ≡ replicate (size_of c g * size_k c.handed.code) 255
 
 -- ---- between two limits
 
 -- the check step that its frames are decoded by
 abbrev pub reading : GroupCall → DecodeRule
-reading c = ruleOf c.handed.code c.handed.rule c.handed.scale
+reading c = rule_of c.handed.code c.handed.rule c.handed.scale
 
 -- two accepted calls of one reading with limits a ≤ b, "that hold the same whole group": its frames bit for bit, in order, at any places
 pub record SameGroup (a b : GroupCall) (g h : ℕ) : Type 0 where
-  pub acceptedA : Accepted a
-  pub acceptedB : Accepted b
+  pub accepted_a : Accepted a
+  pub accepted_b : Accepted b
   pub code : a.handed.code ≡ b.handed.code
   pub rule : reading a ≡ reading b
   pub limits : a.handed.limit ≤ b.handed.limit
-  pub groupA : g < length a.sizes
-  pub groupB : h < length b.sizes
+  pub group_a : g < length a.sizes
+  pub group_b : h < length b.sizes
   pub size : size_of a g ≡ size_of b h
   pub frame : (i : ℕ) → i < size_of a g → values_of a g i ≡ values_of b h i
 
 -- "A group delivered under a limit is delivered with the same bits under a larger one."
 pub record StaysDelivered (a b : GroupCall) (g h : ℕ) : Type 0 where
-  pub delivered : isDelivered a g ≡ true → isDelivered b h ≡ true
-  pub bits : isDelivered a g ≡ true → bits_of a g ≡ bits_of b h
+  pub delivered : is_delivered a g ≡ true → is_delivered b h ≡ true
+  pub bits : is_delivered a g ≡ true → bits_of a g ≡ bits_of b h

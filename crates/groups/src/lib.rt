@@ -1,13 +1,13 @@
 // A batch with a list of group sizes: the frames of a move are delivered together, or none of them is.
 ghost use Rattle.std.specs.Prelude.{◌≡◌, ◌++◌, ◌*◌, ◌≤◌, length};
 ghost use Rattle.refusal.specs.Outcome.{judged};
-ghost use Rattle.refusal.specs.Answers.{statusOf};
-ghost use Rattle.batch.specs.Codes.{sizeN, sizeK};
-ghost use Rattle.batch.specs.Pairs.{pairsOf, framesOf, AllWithin};
-ghost use Rattle.batch.specs.Calls.{lent, batch, refusalsOf};
-ghost use Rattle.clean_frames.specs.CleanFrames.{cleanOf};
-ghost use Rattle.grouping.specs.Grouping.{sizeRefusals, total, delivered};
-ghost use Rattle.groups.specs.Groups.{cleanFrom, Answered};
+ghost use Rattle.refusal.specs.Answers.{status_of};
+ghost use Rattle.batch.specs.Codes.{size_n, size_k};
+ghost use Rattle.batch.specs.Pairs.{pairs_of, frames_of, AllWithin};
+ghost use Rattle.batch.specs.Calls.{lent, batch, refusals_of};
+ghost use Rattle.clean_frames.specs.CleanFrames.{clean_of};
+ghost use Rattle.grouping.specs.Grouping.{size_refusals, total, delivered};
+ghost use Rattle.groups.specs.Groups.{clean_from, Answered};
 
 use batch_refusals::{MOST_PAIRS, Room};
 use refusal::Status;
@@ -23,8 +23,8 @@ fn groups_fault(
     sizes: &[u32],
     room: Room,
 ) -> Status
-    ensures { statusOf result ≡ judged
-        (refusalsOf code rule values (pairsOf pairs.now) room ++ sizeRefusals (length (pairsOf pairs.now)) sizes.now) tt }
+    ensures { status_of result ≡ judged
+        (refusals_of code rule values (pairs_of pairs.now) room ++ size_refusals (length (pairs_of pairs.now)) sizes.now) tt }
 {
     if let Status::Refused(r) = batch_refusals::batch_fault(code, rule, values, pairs, room) {
         return Status::Refused(r);
@@ -43,12 +43,12 @@ fn clean_list(
     bits: &[u8],
     clean: &mut [bool],
 )
-    requires all_within { AllWithin (sizeN code) (length values.now) (pairsOf pairs.now) }
-    requires pairs_len_bound { length (pairsOf pairs.now) ≤ 24 }
-    requires counts_len { (length counts.now ≡ length (pairsOf pairs.now)) × (length bits.now ≡ length (pairsOf pairs.now) * sizeK code) }
-    requires clean_len { length clean.old ≡ length (pairsOf pairs.now) }
+    requires all_within { AllWithin (size_n code) (length values.now) (pairs_of pairs.now) }
+    requires pairs_len_bound { length (pairs_of pairs.now) ≤ 24 }
+    requires counts_len { (length counts.now ≡ length (pairs_of pairs.now)) × (length bits.now ≡ length (pairs_of pairs.now) * size_k code) }
+    requires clean_len { length clean.old ≡ length (pairs_of pairs.now) }
     ensures { clean.new
-        ≡ cleanFrom (cleanOf code (framesOf values.now (pairsOf pairs.now)) counts.now bits.now)
+        ≡ clean_from (clean_of code (frames_of values.now (pairs_of pairs.now)) counts.now bits.now)
         0 (length clean.old) }
 {
     let mut j = 0;
@@ -67,13 +67,13 @@ fn deliver_groups(
     counts: &[u16],
     bits: &mut [u8],
 )
-    requires all_within { AllWithin (sizeN code) (length values.now) (pairsOf pairs.now) }
-    requires pairs_len_bound { length (pairsOf pairs.now) ≤ 24 }
-    requires counts_len { (length counts.now ≡ length (pairsOf pairs.now)) × (length bits.old ≡ length (pairsOf pairs.now) * sizeK code) }
-    requires sizes_in_bounds { total sizes.now ≤ length (pairsOf pairs.now) }
-    ensures { bits.new ≡ delivered (sizeK code) sizes.now
-        (cleanFrom (cleanOf code (framesOf values.now (pairsOf pairs.now)) counts.now bits.old)
-        0 (length (pairsOf pairs.now)))
+    requires all_within { AllWithin (size_n code) (length values.now) (pairs_of pairs.now) }
+    requires pairs_len_bound { length (pairs_of pairs.now) ≤ 24 }
+    requires counts_len { (length counts.now ≡ length (pairs_of pairs.now)) × (length bits.old ≡ length (pairs_of pairs.now) * size_k code) }
+    requires sizes_in_bounds { total sizes.now ≤ length (pairs_of pairs.now) }
+    ensures { bits.new ≡ delivered (size_k code) sizes.now
+        (clean_from (clean_of code (frames_of values.now (pairs_of pairs.now)) counts.now bits.old)
+        0 (length (pairs_of pairs.now)))
         bits.old }
 {
     let n = pairs.len() / 2;
@@ -100,10 +100,10 @@ pub fn decode_groups(
     work: &mut [f32],
 ) -> Status
     ensures { Answered
-        (batch code rule limit scale values.now (pairsOf pairs.now)
+        (batch code rule limit scale values.now (pairs_of pairs.now)
         (lent bits.old counts.old rounds.old firsts.old work.old))
         sizes.now
-        (statusOf result)
+        (status_of result)
         (lent bits.new counts.new rounds.new firsts.new work.new) }
 {
     let room = Room {

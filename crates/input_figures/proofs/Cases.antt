@@ -5,24 +5,24 @@ use mathlib.Core.List.{List, [], ◌∷◌}
 use Prim.Native.Nat.{ℕ}
 use lib.Ieee.{of_bits, of_fields, is_nan, odd, le, lt, eq}
 use lib.ListN.{replicate}
-use Rattle.bits.specs.Bits.{numberAfter}
-use Rattle.checksum.specs.Qex.{bringDown, divide, qex}
-use Rattle.tanner.specs.Checks.{low_bits, parity, count, firstBy}
+use Rattle.bits.specs.Bits.{number_after}
+use Rattle.checksum.specs.Qex.{bring_down, divide, qex}
+use Rattle.tanner.specs.Checks.{low_bits, parity, count, first_by}
 use Rattle.tanner.specs.Flat.{joined}
-use Rattle.code174.specs.Tables.{nm, numRows}
-use Rattle.code174.specs.Code174.{rowsOfSeven, checks}
+use Rattle.code174.specs.Tables.{nm, num_rows}
+use Rattle.code174.specs.Code174.{rows_of_seven, checks}
 use Rattle.softmath.specs.Functions.{decide}
-use Rattle.one_round.specs.Round.{initialWord}
-use Rattle.rounds.specs.Rounds.{roundWords, chosenFrom, chosen, chosenCount, chosenFirst, chosenBits, roundsRun}
+use Rattle.one_round.specs.Round.{initial_word}
+use Rattle.rounds.specs.Rounds.{round_words, chosen_from, chosen, chosen_count, chosen_first, chosen_bits, rounds_run}
 use Rattle.refusal.specs.Outcome.{accepted, refused}
-use Rattle.batch.specs.Codes.{sizeN, sizeK, decodeBy}
-use Rattle.batch.specs.Pairs.{pairsOf, frame_of}
-use Rattle.batch.specs.Calls.{ruleNotOfCode, pairRefusals, refusalsOf, written}
-use Rattle.clean.specs.Clean.{anyNan, checksumRight, frameClean}
-use Rattle.batch_input.specs.Input.{u32sFrom, floatOf, pairNumbers, values_of, malformed}
-use Rattle.figures.specs.Totals.{totalsOf, nothingYet}
-use Rattle.batch_figures.specs.Results.{framesFrom, batchFrames}
-use Rattle.input_figures.specs.Added.{inputAdded}
+use Rattle.batch.specs.Codes.{size_n, size_k, decode_by}
+use Rattle.batch.specs.Pairs.{pairs_of, frame_of}
+use Rattle.batch.specs.Calls.{rule_not_of_code, pair_refusals, refusals_of, written}
+use Rattle.clean.specs.Clean.{any_nan, checksum_right, frame_clean}
+use Rattle.batch_input.specs.Input.{u32s_from, float_of, pair_numbers, values_of, malformed}
+use Rattle.figures.specs.Totals.{totals_of, nothing_yet}
+use Rattle.batch_figures.specs.Results.{frames_from, batch_frames}
+use Rattle.input_figures.specs.Added.{input_added}
 
 -- code, rule 0, limit 20, scale 0, one pair (0, 174), 174 values 1.0
 sample : ℕ → List ℕ
@@ -30,13 +30,13 @@ sample code =
     code ∷ 0 ∷ 20 ∷ 0 ∷ 0 ∷ 0 ∷ 0 ∷ 0 ∷ 1 ∷ 0 ∷ 0 ∷ 0 ∷ 0 ∷ 0 ∷ 0 ∷ 0 ∷ 174 ∷ 0 ∷ 0 ∷ 0
     ∷ joined (replicate 174 (0 ∷ 0 ∷ 0x80 ∷ 0x3f ∷ []))
 
-one-clean : inputAdded nothingYet (sample 3) ≡ accepted (record { frames = 1; clean = 1; counts = 0; rounds = 0 })
-unfolding inputAdded sample joined batchFrames framesFrom totalsOf frameClean anyNan is_nan checksumRight low_bits qex divide bringDown numberAfter pairNumbers
-    values_of floatOf u32sFrom malformed sizeN sizeK refusalsOf pairRefusals pairsOf
-    frame_of written decodeBy chosen chosenCount chosenFirst chosenBits chosenFrom initialWord roundWords roundsRun firstBy parity count checks rowsOfSeven nm
-    numRows decide of_bits of_fields odd le lt eq ruleNotOfCode
-one-clean = refl
+one_clean : input_added nothing_yet (sample 3) ≡ accepted (record { frames = 1; clean = 1; counts = 0; rounds = 0 })
+unfolding input_added sample joined batch_frames frames_from totals_of frame_clean any_nan is_nan checksum_right low_bits qex divide bring_down number_after pair_numbers
+    values_of float_of u32s_from malformed size_n size_k refusals_of pair_refusals pairs_of
+    frame_of written decode_by chosen chosen_count chosen_first chosen_bits chosen_from initial_word round_words rounds_run first_by parity count checks rows_of_seven nm
+    num_rows decide of_bits of_fields odd le lt eq rule_not_of_code
+one_clean = refl
 
-not-counted : (inputAdded nothingYet (replicate 11 0) ≡ refused 13) × (inputAdded nothingYet (sample 4) ≡ refused 1)
-unfolding inputAdded sample joined malformed refusalsOf pairRefusals pairNumbers pairsOf u32sFrom
-not-counted = (refl, refl)
+not_counted : (input_added nothing_yet (replicate 11 0) ≡ refused 13) × (input_added nothing_yet (sample 4) ≡ refused 1)
+unfolding input_added sample joined malformed refusals_of pair_refusals pair_numbers pairs_of u32s_from
+not_counted = (refl, refl)

@@ -1,8 +1,8 @@
 // The reception figures of a program's input: its batch is read and decoded, and its frames are added to a total.
 ghost use Rattle.std.specs.Prelude.{◌≡◌, false, take};
-ghost use Rattle.batch_input.specs.Input.{pairNumbers, values_of, malformed};
-ghost use Rattle.figures.specs.Totals.{summedOf};
-ghost use Rattle.input_figures.specs.Added.{inputAdded};
+ghost use Rattle.batch_input.specs.Input.{pair_numbers, values_of, malformed};
+ghost use Rattle.figures.specs.Totals.{summed_of};
+ghost use Rattle.input_figures.specs.Added.{input_added};
 
 use decoded_input::Decoded;
 use figures::{Summed, Totals};
@@ -11,8 +11,8 @@ use refusal::Refusal;
 // The total with the frames of an input that is not malformed, its values and pairs read.
 fn add_frames(total: Totals, input: &[u8], values: &[f32], pairs: &[u32]) -> Summed
     requires input_value { malformed input.now ≡ false }
-    requires values_value { (values.now ≡ values_of input.now) × (pairs.now ≡ take 50 (pairNumbers input.now)) }
-    ensures { summedOf result ≡ inputAdded total input.now }
+    requires values_value { (values.now ≡ values_of input.now) × (pairs.now ≡ take 50 (pair_numbers input.now)) }
+    ensures { summed_of result ≡ input_added total input.now }
 {
     let mut bits = decoded_input::bits_room();
     let mut counts = decoded_input::numbers_room();
@@ -43,7 +43,7 @@ fn add_frames(total: Totals, input: &[u8], values: &[f32], pairs: &[u32]) -> Sum
 // The total with the frames of an input that is not malformed.
 fn add_read(total: Totals, input: &[u8]) -> Summed
     requires { malformed input.now ≡ false }
-    ensures { summedOf result ≡ inputAdded total input.now }
+    ensures { summed_of result ≡ input_added total input.now }
 {
     let mut pairs = batch_input::pairs_room();
     let words = batch_input::read_pairs(input, &mut pairs);
@@ -54,7 +54,7 @@ fn add_read(total: Totals, input: &[u8]) -> Summed
 
 // The total with the frames of an input's batch.
 pub fn add_input(total: Totals, input: &[u8]) -> Summed
-    ensures { summedOf result ≡ inputAdded total input.now }
+    ensures { summed_of result ≡ input_added total input.now }
 {
     if batch_input::is_malformed(input) {
         return Summed::Refused(Refusal::Malformed);

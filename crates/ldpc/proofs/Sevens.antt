@@ -11,13 +11,13 @@ use lib.Bits.{bit_xor, bit_and, xor_zero_r}
 use lib.Dec.{eqb, ltb}
 use lib.ListN.{length, get_or, take, drop}
 use lib.Seq.{drop-drop}
-use Rattle.tanner.specs.Checks.{Checks, xorFrom, nonzero, firstBy}
-use Rattle.tanner.specs.Masked.{countMasked, measured, firstMasked}
+use Rattle.tanner.specs.Checks.{Checks, xor_from, nonzero, first_by}
+use Rattle.tanner.specs.Masked.{count_masked, measured, first_masked}
 use Rattle.lists.specs.Below.{Below}
 use Rattle.code174.specs.Agreement.{each}
-use Rattle.code174.specs.Code174.{rowsOfSeven, checks}
-use Rattle.ldpc.specs.Rows.{Rows, sevens, fromOne}
-use Rattle.code174.specs.Tables.{nm, numRows}
+use Rattle.code174.specs.Code174.{rows_of_seven, checks}
+use Rattle.ldpc.specs.Rows.{Rows, sevens, from_one}
+use Rattle.code174.specs.Tables.{nm, num_rows}
 use Rattle.code174.proofs.Tests.{each_at}
 
 -- ---- a turn
@@ -28,9 +28,9 @@ rows_more rows c a t h =
     let n : rows - c ≡ suc (rows - (c + 1)) = omega arith in
     rw (n, add-sub_cancel_left a 7, drop-drop 7 a t)
 
-pub rows-done : (rows c a : ℕ) (t : List ℕ) → rows ≤ c → sevens (rows - c) (drop a t) ≡ []
+pub rows_done : (rows c a : ℕ) (t : List ℕ) → rows ≤ c → sevens (rows - c) (drop a t) ≡ []
 unfolding sevens
-rows-done rows c a t h =
+rows_done rows c a t h =
     let n : rows - c ≡ 0 = omega arith in
     rw n
 
@@ -41,36 +41,36 @@ rows_all rows t =
 
 -- ---- the word with a byte 0 before it
 
-xor-from-one : (x : ℕ) (ps w : List ℕ) → xorFrom x ps (0 ∷ w) ≡ xorFrom x (fromOne ps) w
-unfolding xorFrom fromOne
-xor-from-one x [] w = refl
-xor-from-one x (zero ∷ ps) w = rw (xor_zero_r x) (xor-from-one x ps w)
-xor-from-one x (suc p ∷ ps) w = xor-from-one (bit_xor x (get_or w p 0)) ps w
+xor-from_one : (x : ℕ) (ps w : List ℕ) → xor_from x ps (0 ∷ w) ≡ xor_from x (from_one ps) w
+unfolding xor_from from_one
+xor-from_one x [] w = refl
+xor-from_one x (zero ∷ ps) w = rw (xor_zero_r x) (xor-from_one x ps w)
+xor-from_one x (suc p ∷ ps) w = xor-from_one (bit_xor x (get_or w p 0)) ps w
 
 module _ (mask : ℕ) (w : List ℕ) where
-  measured-same : (r : List ℕ) → measured mask (0 ∷ w) r ≡ measured mask w (fromOne r)
-  measured-same r = ap (λ (x : ℕ). nonzero (bit_and x mask)) (xor-from-one 0 r w)
+  measured-same : (r : List ℕ) → measured mask (0 ∷ w) r ≡ measured mask w (from_one r)
+  measured-same r = ap (λ (x : ℕ). nonzero (bit_and x mask)) (xor-from_one 0 r w)
 
-  count_same : (rs : Checks) → countMasked mask rs (0 ∷ w) ≡ countMasked mask (map fromOne rs) w
-  unfolding countMasked
+  count_same : (rs : Checks) → count_masked mask rs (0 ∷ w) ≡ count_masked mask (map from_one rs) w
+  unfolding count_masked
   count_same [] = refl
   count_same (r ∷ rs) = rw (measured-same r, count_same rs)
 
-  first-same : (c : ℕ) (rs : Checks) → firstBy (measured mask (0 ∷ w)) c rs ≡ firstBy (measured mask w) c (map fromOne rs)
-  unfolding firstBy
+  first-same : (c : ℕ) (rs : Checks) → first_by (measured mask (0 ∷ w)) c rs ≡ first_by (measured mask w) c (map from_one rs)
+  unfolding first_by
   first-same c [] = refl
   first-same c (r ∷ rs) = rw (measured-same r, first-same (suc c) rs)
 
 -- the computed test
-nm-rows : map fromOne (sevens 83 nm) ≡ checks
-unfolding fromOne sevens nm numRows checks rowsOfSeven
-nm-rows = refl
+nm_rows : map from_one (sevens 83 nm) ≡ checks
+unfolding from_one sevens nm num_rows checks rows_of_seven
+nm_rows = refl
 
-checks-counted : (mask : ℕ) (w : List ℕ) → countMasked mask (sevens 83 nm) (0 ∷ w) ≡ countMasked mask checks w
-checks-counted mask w = count_same mask w (sevens 83 nm) ∙ ap (λ (cs : Checks). countMasked mask cs w) nm-rows
+checks_counted : (mask : ℕ) (w : List ℕ) → count_masked mask (sevens 83 nm) (0 ∷ w) ≡ count_masked mask checks w
+checks_counted mask w = count_same mask w (sevens 83 nm) ∙ ap (λ (cs : Checks). count_masked mask cs w) nm_rows
 
-checks-first : (mask : ℕ) (w : List ℕ) → firstMasked mask (sevens 83 nm) (0 ∷ w) ≡ firstMasked mask checks w
-checks-first mask w = first-same mask w 0 (sevens 83 nm) ∙ ap (λ (cs : Checks). firstMasked mask cs w) nm-rows
+checks-first : (mask : ℕ) (w : List ℕ) → first_masked mask (sevens 83 nm) (0 ∷ w) ≡ first_masked mask checks w
+checks-first mask w = first-same mask w 0 (sevens 83 nm) ∙ ap (λ (cs : Checks). first_masked mask cs w) nm_rows
 
 -- of a word that has a byte 0 before it
 behind : (p : List ℕ) → length p ≡ 175 → get_or p 0 0 ≡ 0 → p ≡ 0 ∷ drop 1 p
@@ -78,42 +78,42 @@ behind [] n z = absurd (omega arith)
 behind (x ∷ p) n z = ap (λ (y : ℕ). y ∷ p) z
 
 module _ (mask : ℕ) (p : List ℕ) (n : length p ≡ 175) (z : get_or p 0 0 ≡ 0) where
-  pub behind-counted : countMasked mask (sevens 83 nm) p ≡ countMasked mask checks (drop 1 p)
-  behind-counted = ap (countMasked mask (sevens 83 nm)) (behind p n z) ∙ checks-counted mask (drop 1 p)
+  pub behind-counted : count_masked mask (sevens 83 nm) p ≡ count_masked mask checks (drop 1 p)
+  behind-counted = ap (count_masked mask (sevens 83 nm)) (behind p n z) ∙ checks_counted mask (drop 1 p)
 
-  pub behind-first : firstMasked mask (sevens 83 nm) p ≡ firstMasked mask checks (drop 1 p)
-  behind-first = ap (firstMasked mask (sevens 83 nm)) (behind p n z) ∙ checks-first mask (drop 1 p)
+  pub behind-first : first_masked mask (sevens 83 nm) p ≡ first_masked mask checks (drop 1 p)
+  behind-first = ap (first_masked mask (sevens 83 nm)) (behind p n z) ∙ checks-first mask (drop 1 p)
 
 -- ---- in parts
 
 -- the first n rows, and the rest
-count-parts : (mask : ℕ) (bytes : List ℕ) (n k : ℕ) (t : List ℕ) → countMasked mask (sevens (n + k) t) bytes ≡ countMasked mask
-    (sevens n t) bytes + countMasked mask (sevens k (drop (n * 7) t)) bytes
-unfolding countMasked sevens
-count-parts mask bytes zero k t =
+count_parts : (mask : ℕ) (bytes : List ℕ) (n k : ℕ) (t : List ℕ) → count_masked mask (sevens (n + k) t) bytes ≡ count_masked mask
+    (sevens n t) bytes + count_masked mask (sevens k (drop (n * 7) t)) bytes
+unfolding count_masked sevens
+count_parts mask bytes zero k t =
     let z : 0 + k ≡ k = omega arith in
     rw z (omega arith)
-count-parts mask bytes (suc n) k t =
+count_parts mask bytes (suc n) k t =
     let s : suc n + k ≡ suc (n + k) = omega arith in
     let d : suc n * 7 ≡ 7 + n * 7 = omega arith in
-    rw (s, d, ← drop-drop (n * 7) 7 t) (omega (arith, count-parts mask bytes n k (drop 7 t)))
+    rw (s, d, ← drop-drop (n * 7) 7 t) (omega (arith, count_parts mask bytes n k (drop 7 t)))
 
 module _ (mask : ℕ) (bytes : List ℕ) where
   -- the rows before `first` and those from there on
-  pub rows-after : (first end n : ℕ) (t : List ℕ) → n ≡ countMasked mask (sevens first t) bytes → first ≤ end
-      → n + countMasked mask (sevens (end - first) (drop (first * 7) t)) bytes ≡ countMasked mask (sevens end t) bytes
+  pub rows-after : (first end n : ℕ) (t : List ℕ) → n ≡ count_masked mask (sevens first t) bytes → first ≤ end
+      → n + count_masked mask (sevens (end - first) (drop (first * 7) t)) bytes ≡ count_masked mask (sevens end t) bytes
   rows-after first end n t e h =
       let s : first + (end - first) ≡ end = omega arith in
-      rw (e, ← count-parts mask bytes first (end - first) t, s)
+      rw (e, ← count_parts mask bytes first (end - first) t, s)
 
   bit : (b : Bool) → cond b 0 1 ≤ 1
   bit true = omega arith
   bit false = omega arith
 
-  pub rows_few : (n : ℕ) (t : List ℕ) → countMasked mask (sevens n t) bytes ≤ n
-  unfolding countMasked sevens
+  pub rows_few : (n : ℕ) (t : List ℕ) → count_masked mask (sevens n t) bytes ≤ n
+  unfolding count_masked sevens
   rows_few zero t = omega arith
-  rows_few (suc n) t = omega (arith, bit (eqb (bit_and (xorFrom 0 (take 7 t) bytes) mask) 0), rows_few n (drop 7 t))
+  rows_few (suc n) t = omega (arith, bit (eqb (bit_and (xor_from 0 (take 7 t) bytes) mask) 0), rows_few n (drop 7 t))
 
 -- the entries are places of a word with a byte before it
 nm-low : Below 175 nm

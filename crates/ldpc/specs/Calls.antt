@@ -3,5 +3,5 @@ use Rattle.std.specs.Prelude.{not, List, [], ◌∷◌, ℕ, eqb, length}
 use Rattle.refusal.specs.Outcome.{Condition, ◌when◌}
 
 -- "input not its fixed length (.. (174,91) .. 174 values or bits ..)"
-abbrev pub countRefusals : List ℕ → List Condition
-countRefusals hard = (4 when not (eqb (length hard) 174)) ∷ []
+abbrev pub count_refusals : List ℕ → List Condition
+count_refusals hard = (4 when not (eqb (length hard) 174)) ∷ []

@@ -9,10 +9,10 @@ sevens zero ps = []
 sevens (suc n) ps = take 7 ps ∷ sevens n (drop 7 ps)
 
 -- "`NM` and `MN` count positions from 1; 0 in `NM` means no entry": the positions of a row, counted from 0
-unfoldable pub fromOne : List ℕ → List ℕ
-fromOne [] = []
-fromOne (zero ∷ ps) = fromOne ps
-fromOne (suc p ∷ ps) = p ∷ fromOne ps
+unfoldable pub from_one : List ℕ → List ℕ
+from_one [] = []
+from_one (zero ∷ ps) = from_one ps
+from_one (suc p ∷ ps) = p ∷ from_one ps
 
 -- a table of few rows, whose entries are places of a word of n bytes
 pub record Rows (rows : ℕ) (table : List ℕ) (n : ℕ) : Type 0 where

@@ -1,14 +1,14 @@
 // The (174,91) LDPC code of FT8: its checks in tables, and the count of unsatisfied checks.
 ghost use Rattle.std.specs.Prelude.{◌≡◌, ◌∷◌, ◌<◌, ◌≤◌, length, get_or, drop};
 ghost use Rattle.refusal.specs.Outcome.{judged};
-ghost use Rattle.tanner.specs.Checks.{xorFrom, syndromeOfBytes};
-ghost use Rattle.tanner.specs.Masked.{countMasked, firstMasked, syndromeMasked};
-ghost use Rattle.tanner.specs.Found.{first_of, syndromeOf, countingOf};
+ghost use Rattle.tanner.specs.Checks.{xor_from, syndrome_of_bytes};
+ghost use Rattle.tanner.specs.Masked.{count_masked, first_masked, syndrome_masked};
+ghost use Rattle.tanner.specs.Found.{first_of, syndrome_of, counting_of};
 ghost use Rattle.lists.specs.Below.{Below};
-ghost use Rattle.ldpc.specs.Calls.{countRefusals};
+ghost use Rattle.ldpc.specs.Calls.{count_refusals};
 ghost use Rattle.code174.specs.Code174.{checks};
 ghost use Rattle.ldpc.specs.Rows.{Rows, sevens};
-ghost use Rattle.code174.specs.Tables.{nm, numRows, mn};
+ghost use Rattle.code174.specs.Tables.{nm, num_rows, mn};
 
 use refusal::Refusal;
 use tanner::{Counted, Counting, FirstCheck};
@@ -37,7 +37,7 @@ pub fn nm_entry(i: usize) -> u8
 // An entry of NUM_ROWS, one a check.
 pub fn num_rows_entry(i: usize) -> u8
     requires { i < 83 }
-    ensures { result ≡ get_or numRows i 0 }
+    ensures { result ≡ get_or num_rows i 0 }
 {
     tables::NUM_ROWS[i]
 }
@@ -53,7 +53,7 @@ pub fn mn_entry(i: usize) -> u8
 // The bytes at a row's entries, XORed whole.
 fn xor_row(row: &[u8], padded: &[u8]) -> u8
     requires { Below (length padded.now) row.now }
-    ensures { result ≡ xorFrom 0 row.now padded.now }
+    ensures { result ≡ xor_from 0 row.now padded.now }
 {
     let mut x: u8 = 0;
     let mut i = 0;
@@ -69,8 +69,8 @@ fn xor_row(row: &[u8], padded: &[u8]) -> u8
 fn count_rows(first: usize, end: usize, before: u16, table: &[u8], padded: &[u8], mask: u8) -> u16
     requires rows { Rows 83 table.now (length padded.now) }
     requires first_le_end { (first ≤ end) × (end ≤ 83) }
-    requires before_value { before ≡ countMasked mask (sevens first table.now) padded.now }
-    ensures { result ≡ countMasked mask (sevens end table.now) padded.now }
+    requires before_value { before ≡ count_masked mask (sevens first table.now) padded.now }
+    ensures { result ≡ count_masked mask (sevens end table.now) padded.now }
 {
     let mut count = before;
     let mut a = first * 7;
@@ -89,7 +89,7 @@ fn count_rows(first: usize, end: usize, before: u16, table: &[u8], padded: &[u8]
 // The count over `NM`, eleven rows a call, so that the compiler sees each position as a number and reads no table.
 fn count_word(padded: &[u8], mask: u8) -> u16
     requires { length padded.now ≡ 175 }
-    ensures { result ≡ countMasked mask (sevens 83 nm) padded.now }
+    ensures { result ≡ count_masked mask (sevens 83 nm) padded.now }
 {
     let nm = tables::NM;
     let mut n = count_rows(0, 11, 0, &nm, padded, mask);
@@ -105,7 +105,7 @@ fn count_word(padded: &[u8], mask: u8) -> u16
 // The first row that the mask counts: the scan ends there.
 fn first_row(table: &[u8], padded: &[u8], mask: u8) -> FirstCheck
     requires { Rows 83 table.now (length padded.now) }
-    ensures { first_of result ≡ firstMasked mask (sevens 83 table.now) padded.now }
+    ensures { first_of result ≡ first_masked mask (sevens 83 table.now) padded.now }
 {
     let mut c = 0;
     let mut a = 0;
@@ -123,7 +123,7 @@ fn first_row(table: &[u8], padded: &[u8], mask: u8) -> FirstCheck
 // The same over `NM`, which a function of its own names: a constant is laid where the function that names it starts.
 fn first_word(padded: &[u8], mask: u8) -> FirstCheck
     requires { length padded.now ≡ 175 }
-    ensures { first_of result ≡ firstMasked mask (sevens 83 nm) padded.now }
+    ensures { first_of result ≡ first_masked mask (sevens 83 nm) padded.now }
 {
     first_row(&tables::NM, padded, mask)
 }
@@ -132,7 +132,7 @@ fn first_word(padded: &[u8], mask: u8) -> FirstCheck
 pub fn counted(padded: &[u8], mask: u8) -> Counted
     requires padded_len { length padded.now ≡ 175 }
     requires padded_value { get_or padded.now 0 0 ≡ 0 }
-    ensures { syndromeOf result ≡ syndromeMasked mask checks (drop 1 padded.now) }
+    ensures { syndrome_of result ≡ syndrome_masked mask checks (drop 1 padded.now) }
 {
     let count = count_word(padded, mask);
     if count == 0 {
@@ -162,7 +162,7 @@ fn padded_word(hard: &[u8]) -> [u8; 175]
 // How many checks the low bits of a word leave unsatisfied.
 pub fn count_low(hard: &[u8]) -> u16
     requires { length hard.now ≡ 174 }
-    ensures { result ≡ countMasked 1 checks hard.now }
+    ensures { result ≡ count_masked 1 checks hard.now }
 {
     let padded = padded_word(hard);
     count_word(&padded, 1)
@@ -171,7 +171,7 @@ pub fn count_low(hard: &[u8]) -> u16
 // The first of them.
 pub fn first_low(hard: &[u8]) -> FirstCheck
     requires { length hard.now ≡ 174 }
-    ensures { first_of result ≡ firstMasked 1 checks hard.now }
+    ensures { first_of result ≡ first_masked 1 checks hard.now }
 {
     let padded = padded_word(hard);
     first_word(&padded, 1)
@@ -179,7 +179,7 @@ pub fn first_low(hard: &[u8]) -> FirstCheck
 
 // How many checks have bytes whose XOR is not zero, and the first of them.
 pub fn ldpc_count_errors(hard: &[u8]) -> Counting
-    ensures { countingOf result ≡ judged (countRefusals hard.now) (syndromeOfBytes checks hard.now) }
+    ensures { counting_of result ≡ judged (count_refusals hard.now) (syndrome_of_bytes checks hard.now) }
 {
     if hard.len() != N {
         return Counting::Refused(Refusal::InputLength);

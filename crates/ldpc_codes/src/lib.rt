@@ -1,11 +1,11 @@
 // The staircase codes: encoding and counting by a code's number, each call with its refusals.
 ghost use Rattle.std.specs.Prelude.{◌≡◌};
 ghost use Rattle.refusal.specs.Outcome.{judged, kept};
-ghost use Rattle.refusal.specs.Answers.{statusOf};
-ghost use Rattle.construction.specs.Codes.{blockLength};
+ghost use Rattle.refusal.specs.Answers.{status_of};
+ghost use Rattle.construction.specs.Codes.{block_length};
 ghost use Rattle.staircase.specs.Codes.{code_of};
-ghost use Rattle.tanner.specs.Found.{countingOf};
-ghost use Rattle.ldpc_codes.specs.Calls.{encodeRefusals, encodedBy, weightRefusals, syndromeBy};
+ghost use Rattle.tanner.specs.Found.{counting_of};
+ghost use Rattle.ldpc_codes.specs.Calls.{encode_refusals, encoded_by, weight_refusals, syndrome_by};
 
 use construction::codes::{N512R12, N512R34, N576R23};
 use refusal::{Refusal, Status};
@@ -13,7 +13,7 @@ use tanner::Counting;
 
 // N and K of the code with that number: any above 1 is code 2.
 pub fn values_of(code: u32) -> usize
-    ensures { result ≡ blockLength (code_of code) }
+    ensures { result ≡ block_length (code_of code) }
 {
     if code == 0 {
         return N512R12::N;
@@ -38,9 +38,9 @@ pub fn bits_of(code: u32) -> usize
 
 // The codeword of a message of K bytes, whose low bits are its bits.
 pub fn encode(code: u32, message: &[u8], codeword: &mut [u8]) -> Status
-    ensures result_value { statusOf result ≡ judged (encodeRefusals code message.now codeword.old) tt }
+    ensures result_value { status_of result ≡ judged (encode_refusals code message.now codeword.old) tt }
     ensures codeword_after { codeword.new
-        ≡ kept (encodeRefusals code message.now codeword.old) codeword.old (encodedBy code message.now) }
+        ≡ kept (encode_refusals code message.now codeword.old) codeword.old (encoded_by code message.now) }
 {
     if code > 2 {
         return Status::Refused(Refusal::UnknownCode);
@@ -57,7 +57,7 @@ pub fn encode(code: u32, message: &[u8], codeword: &mut [u8]) -> Status
 
 // How many checks the low bits of the word's first N bytes leave unsatisfied, and the first of them.
 pub fn syndrome_weight(code: u32, hard: &[u8]) -> Counting
-    ensures { countingOf result ≡ judged (weightRefusals code hard.now) (syndromeBy code hard.now) }
+    ensures { counting_of result ≡ judged (weight_refusals code hard.now) (syndrome_by code hard.now) }
 {
     if code > 2 {
         return Counting::Refused(Refusal::UnknownCode);

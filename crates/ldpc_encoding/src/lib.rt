@@ -1,10 +1,10 @@
 // The (174,91) LDPC code of FT8: encoding by its generator.
 ghost use Rattle.std.specs.Prelude.{◌≡◌, ℕ, ◌+◌, ◌≤◌, ◌<◌, length, get_or};
 ghost use Rattle.refusal.specs.Outcome.{judged, kept};
-ghost use Rattle.refusal.specs.Answers.{statusOf};
-ghost use Rattle.ldpc_encoding.specs.Bytes.{byteParity, mixed, gathered, codeByte};
-ghost use Rattle.ldpc_encoding.specs.Calls.{encodeRefusals};
-ghost use Rattle.ldpc_encoding.specs.Encoding.{codewordOf};
+ghost use Rattle.refusal.specs.Answers.{status_of};
+ghost use Rattle.ldpc_encoding.specs.Bytes.{byte_parity, mixed, gathered, code_byte};
+ghost use Rattle.ldpc_encoding.specs.Calls.{encode_refusals};
+ghost use Rattle.ldpc_encoding.specs.Encoding.{codeword_of};
 
 use ldpc::{K_BYTES, N_BYTES};
 use refusal::{Refusal, Status};
@@ -13,7 +13,7 @@ pub mod tables;
 
 // The parity of a byte's bits.
 fn parity8(x: u8) -> u8
-    ensures { result ≡ byteParity x }
+    ensures { result ≡ byte_parity x }
 {
     let a = x ^ (x >> 4);
     let b = a ^ (a >> 2);
@@ -53,7 +53,7 @@ fn parity_bits(generator: &[u8], message: &[u8], first: usize, count: usize) -> 
 // Byte j of the codeword: the message's, the five first parity bits behind the message's last three, eight more, the last six.
 fn code_byte(generator: &[u8], message: &[u8], j: usize) -> u8
     requires { (j < 22) × (length generator.now ≡ 996) × (length message.now ≡ 12) }
-    ensures { result ≡ codeByte generator.now message.now j }
+    ensures { result ≡ code_byte generator.now message.now j }
 {
     if j < 11 {
         return message[j];
@@ -71,7 +71,7 @@ fn code_byte(generator: &[u8], message: &[u8], j: usize) -> u8
 fn fill(generator: &[u8], message: &[u8], codeword: &mut [u8])
     requires { (length generator.now ≡ 996) × (length message.now ≡ 12) × (length codeword.old ≡ 22) }
     ensures codeword_len { length codeword.new ≡ 22 }
-    ensures by_index { (k : ℕ) → k < 22 → get_or codeword.new k 0 ≡ codeByte generator.now message.now k }
+    ensures by_index { (k : ℕ) → k < 22 → get_or codeword.new k 0 ≡ code_byte generator.now message.now k }
 {
     let mut j = 0;
     while j < 22 {
@@ -81,9 +81,9 @@ fn fill(generator: &[u8], message: &[u8], codeword: &mut [u8])
 }
 
 pub fn ldpc_encode(message: &[u8], codeword: &mut [u8]) -> Status
-    ensures result_value { statusOf result ≡ judged (encodeRefusals message.now codeword.old) tt }
+    ensures result_value { status_of result ≡ judged (encode_refusals message.now codeword.old) tt }
     ensures codeword_after { codeword.new
-        ≡ kept (encodeRefusals message.now codeword.old) codeword.old (codewordOf message.now) }
+        ≡ kept (encode_refusals message.now codeword.old) codeword.old (codeword_of message.now) }
 {
     if message.len() != K_BYTES {
         return Status::Refused(Refusal::InputLength);

@@ -7,11 +7,11 @@ use native.Mathlib.Omega.{arith}
 use lib.Ieee.{Float}
 use lib.Dec.{lit≤}
 use lib.ListN.{length, drop, length-take, length-append}
-use Rattle.batch.specs.Codes.{sizeK}
+use Rattle.batch.specs.Codes.{size_k}
 use Rattle.batch.specs.Calls.{Lent}
 use Rattle.batch.proofs.Sizes.{size_small}
 use Rattle.clean_frames.specs.CleanFrames.{bits_of}
-use Rattle.one_line.proofs.Lengths.{frame-short}
+use Rattle.one_line.proofs.Lengths.{frame_short}
 use Rattle.lines.specs.Lines.{line_at, lines_from}
 
 pub lines_more : (line : ℕ → List ℕ) (j n : ℕ) → j < n → lines_from line j (n - j) ≡ line j ++ lines_from line (j + 1) (n - (j + 1))
@@ -27,15 +27,15 @@ lines_none line j n h =
     rw e
 
 -- a frame's bits are few
-bits-few : (code : ℕ) (bits : List ℕ) (j : ℕ) → length (bits_of code bits j) ≤ 384
-bits-few code bits j = omega (arith, length-take (sizeK code) (drop (j * sizeK code) bits), (size_small code).bits)
+bits_few : (code : ℕ) (bits : List ℕ) (j : ℕ) → length (bits_of code bits j) ≤ 384
+bits_few code bits j = omega (arith, length-take (size_k code) (drop (j * size_k code) bits), (size_small code).bits)
 
 -- a frame's line is short
-pub line-short : (code : ℕ) (fs : List (List Float)) (l : Lent) (j : ℕ) → length (line_at code fs l j) ≤ 127
-line-short code fs l j = frame-short _ _ _ _ _ _ (bits-few code l.bits j)
+pub line_short : (code : ℕ) (fs : List (List Float)) (l : Lent) (j : ℕ) → length (line_at code fs l j) ≤ 127
+line_short code fs l j = frame_short _ _ _ _ _ _ (bits_few code l.bits j)
 
 -- and so are the lines together
-pub lines-short : (line : ℕ → List ℕ) → ((j : ℕ) → length (line j) ≤ 127) → (j n : ℕ) → length (lines_from line j n) ≤ 127 * n
+pub lines_short : (line : ℕ → List ℕ) → ((j : ℕ) → length (line j) ≤ 127) → (j n : ℕ) → length (lines_from line j n) ≤ 127 * n
 unfolding lines_from
-lines-short line h j zero = lit≤ tt
-lines-short line h j (suc n) = rw (length-append (line j) (lines_from line (suc j) n)) (omega (arith, h j, lines-short line h (suc j) n))
+lines_short line h j zero = lit≤ tt
+lines_short line h j (suc n) = rw (length-append (line j) (lines_from line (suc j) n)) (omega (arith, h j, lines_short line h (suc j) n))

@@ -1,8 +1,8 @@
 // The lines of a batch's frames, written into a lent buffer one after another.
 ghost use Rattle.std.specs.Prelude.{◌≡◌, [], ◌+◌, ◌*◌, ◌≤◌, length};
 ghost use Rattle.text.specs.Written.{Written};
-ghost use Rattle.batch.specs.Codes.{sizeN, sizeK};
-ghost use Rattle.batch.specs.Pairs.{pairsOf, framesOf, AllWithin};
+ghost use Rattle.batch.specs.Codes.{size_n, size_k};
+ghost use Rattle.batch.specs.Pairs.{pairs_of, frames_of, AllWithin};
 ghost use Rattle.batch.specs.Calls.{lent};
 ghost use Rattle.lines.specs.Lines.{line_at, lines_from};
 
@@ -18,15 +18,15 @@ pub fn frame_lines(
     rounds: &[u16],
     firsts: &[u16],
 ) -> usize
-    requires all_within { AllWithin (sizeN code) (length values.now) (pairsOf pairs.now) }
-    requires pairs_len_bound { length (pairsOf pairs.now) ≤ 24 }
-    requires counts_len { (length counts.now ≡ length (pairsOf pairs.now)) × (length bits.now ≡ length (pairsOf pairs.now) * sizeK code) }
-    requires rounds_len { (length rounds.now ≡ length (pairsOf pairs.now)) × (length firsts.now ≡ length (pairsOf pairs.now)) }
-    requires pairs_in_bounds { at + 127 * length (pairsOf pairs.now) ≤ length out.old }
+    requires all_within { AllWithin (size_n code) (length values.now) (pairs_of pairs.now) }
+    requires pairs_len_bound { length (pairs_of pairs.now) ≤ 24 }
+    requires counts_len { (length counts.now ≡ length (pairs_of pairs.now)) × (length bits.now ≡ length (pairs_of pairs.now) * size_k code) }
+    requires rounds_len { (length rounds.now ≡ length (pairs_of pairs.now)) × (length firsts.now ≡ length (pairs_of pairs.now)) }
+    requires pairs_in_bounds { at + 127 * length (pairs_of pairs.now) ≤ length out.old }
     ensures { Written out.old at
-        (lines_from (line_at code (framesOf values.now (pairsOf pairs.now))
+        (lines_from (line_at code (frames_of values.now (pairs_of pairs.now))
         (lent bits.now counts.now rounds.now firsts.now []))
-        0 (length (pairsOf pairs.now)))
+        0 (length (pairs_of pairs.now)))
         out.new result }
 {
     let k = batch_refusals::message_bits(code);

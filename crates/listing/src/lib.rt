@@ -1,11 +1,11 @@
 // The listing of a batch: the program's input read, and what is printed for it written into a lent buffer.
 ghost use Rattle.std.specs.Prelude.{◌≡◌, [], false, ◌*◌, ◌≤◌, length, take};
 ghost use Rattle.text.specs.Written.{Written};
-ghost use Rattle.batch.specs.Codes.{sizeN, sizeK};
-ghost use Rattle.batch.specs.Pairs.{pairsOf, AllWithin};
+ghost use Rattle.batch.specs.Codes.{size_n, size_k};
+ghost use Rattle.batch.specs.Pairs.{pairs_of, AllWithin};
 ghost use Rattle.batch.specs.Calls.{lent, batch};
-ghost use Rattle.batch_input.specs.Input.{code_of, ruleOf, limitOf, scale_of, pairCount, pairNumbers, values_of, malformed};
-ghost use Rattle.listing.specs.Listing.{framesText, listingOf};
+ghost use Rattle.batch_input.specs.Input.{code_of, rule_of, limit_of, scale_of, pair_count, pair_numbers, values_of, malformed};
+ghost use Rattle.listing.specs.Listing.{frames_text, listing_of};
 
 use decoded_input::Decoded;
 
@@ -20,16 +20,16 @@ fn write_frames(
     firsts: &[u16],
     out: &mut [u8],
 ) -> usize
-    requires in_bounds { (12 ≤ length input.now) × (pairCount input.now ≡ length (pairsOf pairs.now)) }
-    requires all_within { AllWithin (sizeN (code_of input.now)) (length values.now) (pairsOf pairs.now) }
-    requires pairs_len_bound { length (pairsOf pairs.now) ≤ 24 }
-    requires counts_len { (length counts.now ≡ length (pairsOf pairs.now)) × (length bits.now ≡ length (pairsOf pairs.now) * sizeK (code_of input.now)) }
-    requires rounds_len { (length rounds.now ≡ length (pairsOf pairs.now)) × (length firsts.now ≡ length (pairsOf pairs.now)) }
+    requires in_bounds { (12 ≤ length input.now) × (pair_count input.now ≡ length (pairs_of pairs.now)) }
+    requires all_within { AllWithin (size_n (code_of input.now)) (length values.now) (pairs_of pairs.now) }
+    requires pairs_len_bound { length (pairs_of pairs.now) ≤ 24 }
+    requires counts_len { (length counts.now ≡ length (pairs_of pairs.now)) × (length bits.now ≡ length (pairs_of pairs.now) * size_k (code_of input.now)) }
+    requires rounds_len { (length rounds.now ≡ length (pairs_of pairs.now)) × (length firsts.now ≡ length (pairs_of pairs.now)) }
     requires in_bounds_2 { 4096 ≤ length out.old }
     ensures { Written out.old 0
-        (framesText
-        (batch (code_of input.now) (ruleOf input.now) (limitOf input.now) (scale_of input.now)
-        values.now (pairsOf pairs.now) (lent [] [] [] [] []))
+        (frames_text
+        (batch (code_of input.now) (rule_of input.now) (limit_of input.now) (scale_of input.now)
+        values.now (pairs_of pairs.now) (lent [] [] [] [] []))
         (lent bits.now counts.now rounds.now firsts.now []))
         out.new result }
 {
@@ -55,9 +55,9 @@ fn write_frames(
 fn list_frames(input: &[u8], values: &[f32], pairs: &[u32], out: &mut [u8]) -> usize
     requires input_value { malformed input.now ≡ false }
     requires values_value { values.now ≡ values_of input.now }
-    requires pairs_value { pairs.now ≡ take 50 (pairNumbers input.now) }
+    requires pairs_value { pairs.now ≡ take 50 (pair_numbers input.now) }
     requires in_bounds { 4096 ≤ length out.old }
-    ensures written { Written out.old 0 (listingOf input.now) out.new result }
+    ensures written { Written out.old 0 (listing_of input.now) out.new result }
     ensures upper_bound { result ≤ 4096 }
 {
     let mut bits = decoded_input::bits_room();
@@ -91,7 +91,7 @@ fn list_frames(input: &[u8], values: &[f32], pairs: &[u32], out: &mut [u8]) -> u
 fn list_input(input: &[u8], out: &mut [u8]) -> usize
     requires input_value { malformed input.now ≡ false }
     requires in_bounds { 4096 ≤ length out.old }
-    ensures written { Written out.old 0 (listingOf input.now) out.new result }
+    ensures written { Written out.old 0 (listing_of input.now) out.new result }
     ensures upper_bound { result ≤ 4096 }
 {
     let mut pairs = batch_input::pairs_room();
@@ -104,7 +104,7 @@ fn list_input(input: &[u8], out: &mut [u8]) -> usize
 // The listing of an input, at the front of the buffer; the answer is its length.
 pub fn list(input: &[u8], out: &mut [u8]) -> usize
     requires { 4096 ≤ length out.old }
-    ensures written { Written out.old 0 (listingOf input.now) out.new result }
+    ensures written { Written out.old 0 (listing_of input.now) out.new result }
     ensures upper_bound { result ≤ 4096 }
 {
     if batch_input::is_malformed(input) {

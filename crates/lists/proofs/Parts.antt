@@ -14,9 +14,9 @@ map_at f (x ∷ l) zero a b h = refl
 map_at f (x ∷ l) (suc j) a b h = map_at f l j a b (omega arith)
 
 -- the part from n to the end
-pub rest-whole : {A : Type 0} (l : List A) (n : ℕ) → take (length l - n) (drop n l) ≡ drop n l
-rest-whole l n = take_all (length l - n) (drop n l) (simp length-drop (omega arith))
+pub rest_whole : {A : Type 0} (l : List A) (n : ℕ) → take (length l - n) (drop n l) ≡ drop n l
+rest_whole l n = take_all (length l - n) (drop n l) (simp length-drop (omega arith))
 
 -- the part of k entries from `at` on
-pub part-size : {A : Type 0} (l : List A) (at k : ℕ) → at + k ≤ length l → length (take (at + k - at) (drop at l)) ≡ k
-part-size l at k h = rw (add-sub_cancel_left at k) (length-take-le k (drop at l) (simp length-drop (omega arith)))
+pub part_size : {A : Type 0} (l : List A) (at k : ℕ) → at + k ≤ length l → length (take (at + k - at) (drop at l)) ≡ k
+part_size l at k h = rw (add-sub_cancel_left at k) (length-take-le k (drop at l) (simp length-drop (omega arith)))

@@ -5,16 +5,16 @@ use mathlib.Core.List.{List, [], ◌∷◌}
 use Prim.Native.Nat.{ℕ}
 use Rattle.columns.specs.Rows.{holds}
 use Rattle.construction.specs.Codes.{n512r12}
-use Rattle.tanner.specs.Flat.{joined, ends, places, edgesFrom}
-use Rattle.staircase.specs.Staircase.{taps, parityEntries, checkRow, checkRows}
-use Rattle.staircase.specs.Shape.{tapsAt, stairRows}
+use Rattle.tanner.specs.Flat.{joined, ends, places, edges_from}
+use Rattle.staircase.specs.Staircase.{taps, parity_entries, check_row, check_rows}
+use Rattle.staircase.specs.Shape.{taps_at, stair_rows}
 use Rattle.slots.specs.Layout.{threes}
 use Rattle.slots.proofs.Tables.{slot_by}
 use Rattle.staircase.proofs.Laid.{Laid}
 use Rattle.n512r12.proofs.Rows.{rows0, built0}
 
-unfoldable pub checkStarts0 : List ℕ
-checkStarts0 =
+unfoldable pub check_starts0 : List ℕ
+check_starts0 =
     0 ∷ 4 ∷ 9 ∷ 14 ∷ 19 ∷ 24 ∷ 29 ∷ 34 ∷ 39 ∷ 44 ∷ 49 ∷ 54 ∷ 59 ∷ 64 ∷ 69 ∷ 74 ∷ 79 ∷ 84 ∷ 89 ∷ 94 ∷ 99 ∷ 104 ∷ 109 ∷ 114 ∷ 119 ∷ 124 ∷ 129 ∷
     134 ∷ 139 ∷ 144 ∷ 149 ∷ 154 ∷ 159 ∷ 164 ∷ 169 ∷ 174 ∷ 179 ∷ 184 ∷ 189 ∷ 194 ∷ 199 ∷ 204 ∷ 209 ∷ 214 ∷ 219 ∷ 224 ∷ 229 ∷ 234 ∷ 239 ∷ 244 ∷
     249 ∷ 254 ∷ 259 ∷ 264 ∷ 269 ∷ 274 ∷ 279 ∷ 284 ∷ 289 ∷ 294 ∷ 299 ∷ 304 ∷ 309 ∷ 314 ∷ 319 ∷ 324 ∷ 329 ∷ 334 ∷ 339 ∷ 344 ∷ 349 ∷ 354 ∷ 359 ∷
@@ -28,8 +28,8 @@ checkStarts0 =
     1149 ∷ 1154 ∷ 1159 ∷ 1164 ∷ 1169 ∷ 1174 ∷ 1179 ∷ 1184 ∷ 1189 ∷ 1194 ∷ 1199 ∷ 1204 ∷ 1209 ∷ 1214 ∷ 1219 ∷ 1224 ∷ 1229 ∷ 1234 ∷ 1239 ∷ 1244 ∷
     1249 ∷ 1254 ∷ 1259 ∷ 1264 ∷ 1269 ∷ 1274 ∷ 1279 ∷ []
 
-unfoldable pub checkBits0 : List ℕ
-checkBits0 =
+unfoldable pub check_bits0 : List ℕ
+check_bits0 =
     85 ∷ 131 ∷ 243 ∷ 256 ∷ 45 ∷ 89 ∷ 247 ∷ 257 ∷ 256 ∷ 48 ∷ 120 ∷ 177 ∷ 258 ∷ 257 ∷ 40 ∷ 154 ∷ 195 ∷ 259 ∷ 258 ∷ 23 ∷ 114 ∷ 238 ∷ 260 ∷ 259 ∷ 24
     ∷ 115 ∷ 210 ∷ 261 ∷ 260 ∷ 42 ∷ 123 ∷ 183 ∷ 262 ∷ 261 ∷ 50 ∷ 88 ∷ 191 ∷ 263 ∷ 262 ∷ 57 ∷ 97 ∷ 206 ∷ 264 ∷ 263 ∷ 56 ∷ 98 ∷ 214 ∷ 265 ∷ 264 ∷
     63 ∷ 103 ∷ 221 ∷ 266 ∷ 265 ∷ 71 ∷ 124 ∷ 179 ∷ 267 ∷ 266 ∷ 12 ∷ 142 ∷ 184 ∷ 268 ∷ 267 ∷ 12 ∷ 146 ∷ 195 ∷ 269 ∷ 268 ∷ 2 ∷ 157 ∷ 217 ∷ 270 ∷
@@ -152,6 +152,6 @@ places0 =
     719 ∷ 739 ∷ 513 ∷ 568 ∷ 706 ∷ 529 ∷ 576 ∷ 671 ∷ 575 ∷ 579 ∷ 581 ∷ 585 ∷ 672 ∷ 695 ∷ 586 ∷ 673 ∷ 707 ∷ 696 ∷ 697 ∷ 709 ∷ 591 ∷ 712 ∷ 713 ∷ 593 ∷
     596 ∷ 720 ∷ 597 ∷ 598 ∷ 601 ∷ []
 
-pub laid0 : Laid n512r12 rows0 checkStarts0 checkBits0 3 taps0 places0
-unfolding joined ends checkRows checkRow taps parityEntries holds rows0 threes checkStarts0 checkBits0 stairRows tapsAt taps0 slot_by edgesFrom places places0
+pub laid0 : Laid n512r12 rows0 check_starts0 check_bits0 3 taps0 places0
+unfolding joined ends check_rows check_row taps parity_entries holds rows0 threes check_starts0 check_bits0 stair_rows taps_at taps0 slot_by edges_from places places0
 laid0 = record { built = built0; bits = refl; ends = refl; shape = refl; slots = refl }

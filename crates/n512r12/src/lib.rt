@@ -1,12 +1,12 @@
 // The tables of N512R12, code 0, proved to be what the construction gives. The constants are `staircase`'s.
 ghost use Rattle.std.specs.Prelude.{◌≡◌};
-ghost use Rattle.construction.specs.Codes.{n512r12, messageRows};
+ghost use Rattle.construction.specs.Codes.{n512r12, message_rows};
 
 use staircase::tables::N512R12_ROWS;
 
 // The rows of its message columns, three a column.
 pub fn message_rows() -> [u16; 768]
-    ensures { result ≡ messageRows n512r12 }
+    ensures { result ≡ message_rows n512r12 }
 {
     N512R12_ROWS
 }

@@ -5,16 +5,16 @@ use mathlib.Core.List.{List, [], ◌∷◌}
 use Prim.Native.Nat.{ℕ}
 use Rattle.columns.specs.Rows.{holds}
 use Rattle.construction.specs.Codes.{n512r34}
-use Rattle.tanner.specs.Flat.{joined, ends, places, edgesFrom}
-use Rattle.staircase.specs.Staircase.{taps, parityEntries, checkRow, checkRows}
-use Rattle.staircase.specs.Shape.{tapsAt, stairRows}
+use Rattle.tanner.specs.Flat.{joined, ends, places, edges_from}
+use Rattle.staircase.specs.Staircase.{taps, parity_entries, check_row, check_rows}
+use Rattle.staircase.specs.Shape.{taps_at, stair_rows}
 use Rattle.slots.specs.Layout.{threes}
 use Rattle.slots.proofs.Tables.{slot_by}
 use Rattle.staircase.proofs.Laid.{Laid}
 use Rattle.n512r34.proofs.Rows.{rows2, built2}
 
-unfoldable pub checkStarts2 : List ℕ
-checkStarts2 =
+unfoldable pub check_starts2 : List ℕ
+check_starts2 =
     0 ∷ 10 ∷ 21 ∷ 32 ∷ 43 ∷ 54 ∷ 65 ∷ 76 ∷ 87 ∷ 98 ∷ 109 ∷ 120 ∷ 131 ∷ 142 ∷ 153 ∷ 164 ∷ 175 ∷ 186 ∷ 197 ∷ 208 ∷ 219 ∷ 230 ∷ 241 ∷ 252 ∷ 263 ∷
     274 ∷ 285 ∷ 296 ∷ 307 ∷ 318 ∷ 329 ∷ 340 ∷ 351 ∷ 362 ∷ 373 ∷ 384 ∷ 395 ∷ 406 ∷ 417 ∷ 428 ∷ 439 ∷ 450 ∷ 461 ∷ 472 ∷ 483 ∷ 494 ∷ 505 ∷ 516 ∷
     527 ∷ 538 ∷ 549 ∷ 560 ∷ 571 ∷ 582 ∷ 593 ∷ 604 ∷ 615 ∷ 626 ∷ 637 ∷ 648 ∷ 659 ∷ 670 ∷ 681 ∷ 692 ∷ 703 ∷ 714 ∷ 725 ∷ 736 ∷ 747 ∷ 758 ∷ 769 ∷
@@ -22,8 +22,8 @@ checkStarts2 =
     1033 ∷ 1044 ∷ 1055 ∷ 1066 ∷ 1077 ∷ 1088 ∷ 1099 ∷ 1110 ∷ 1121 ∷ 1132 ∷ 1143 ∷ 1154 ∷ 1165 ∷ 1176 ∷ 1187 ∷ 1198 ∷ 1209 ∷ 1220 ∷ 1231 ∷ 1242 ∷
     1253 ∷ 1264 ∷ 1275 ∷ 1286 ∷ 1297 ∷ 1308 ∷ 1319 ∷ 1330 ∷ 1341 ∷ 1352 ∷ 1363 ∷ 1374 ∷ 1385 ∷ 1396 ∷ 1407 ∷ []
 
-unfoldable pub checkBits2 : List ℕ
-checkBits2 =
+unfoldable pub check_bits2 : List ℕ
+check_bits2 =
     26 ∷ 44 ∷ 99 ∷ 167 ∷ 172 ∷ 219 ∷ 274 ∷ 313 ∷ 346 ∷ 384 ∷ 8 ∷ 47 ∷ 113 ∷ 168 ∷ 176 ∷ 226 ∷ 266 ∷ 322 ∷ 349 ∷ 385 ∷ 384 ∷ 4 ∷ 65 ∷ 114 ∷ 170 ∷
     177 ∷ 213 ∷ 263 ∷ 326 ∷ 363 ∷ 386 ∷ 385 ∷ 30 ∷ 72 ∷ 108 ∷ 170 ∷ 191 ∷ 234 ∷ 268 ∷ 300 ∷ 365 ∷ 387 ∷ 386 ∷ 2 ∷ 71 ∷ 90 ∷ 130 ∷ 179 ∷ 237 ∷
     256 ∷ 315 ∷ 377 ∷ 388 ∷ 387 ∷ 20 ∷ 68 ∷ 93 ∷ 133 ∷ 184 ∷ 226 ∷ 269 ∷ 325 ∷ 372 ∷ 389 ∷ 388 ∷ 33 ∷ 84 ∷ 94 ∷ 130 ∷ 195 ∷ 238 ∷ 265 ∷ 326 ∷
@@ -185,6 +185,6 @@ places2 =
     1050 ∷ 1132 ∷ 1142 ∷ 1028 ∷ 1062 ∷ 1086 ∷ 1088 ∷ 1113 ∷ 1133 ∷ 1089 ∷ 1091 ∷ 1135 ∷ 1066 ∷ 1067 ∷ 1148 ∷ 1068 ∷ 1094 ∷ 1100 ∷ 1069 ∷ 1101 ∷ 1102 ∷
     1103 ∷ 1104 ∷ 1108 ∷ []
 
-pub laid2 : Laid n512r34 rows2 checkStarts2 checkBits2 9 taps2 places2
-unfolding joined ends checkRows checkRow taps parityEntries holds rows2 threes checkStarts2 checkBits2 stairRows tapsAt taps2 slot_by edgesFrom places places2
+pub laid2 : Laid n512r34 rows2 check_starts2 check_bits2 9 taps2 places2
+unfolding joined ends check_rows check_row taps parity_entries holds rows2 threes check_starts2 check_bits2 stair_rows taps_at taps2 slot_by edges_from places places2
 laid2 = record { built = built2; bits = refl; ends = refl; shape = refl; slots = refl }

@@ -1,12 +1,12 @@
 // The tables of N512R34, code 2, proved to be what the construction gives. The constants are `staircase`'s.
 ghost use Rattle.std.specs.Prelude.{◌≡◌};
-ghost use Rattle.construction.specs.Codes.{n512r34, messageRows};
+ghost use Rattle.construction.specs.Codes.{n512r34, message_rows};
 
 use staircase::tables::N512R34_ROWS;
 
 // The rows of its message columns, three a column.
 pub fn message_rows() -> [u16; 1152]
-    ensures { result ≡ messageRows n512r34 }
+    ensures { result ≡ message_rows n512r34 }
 {
     N512R34_ROWS
 }

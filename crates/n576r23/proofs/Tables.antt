@@ -5,16 +5,16 @@ use mathlib.Core.List.{List, [], ◌∷◌}
 use Prim.Native.Nat.{ℕ}
 use Rattle.columns.specs.Rows.{holds}
 use Rattle.construction.specs.Codes.{n576r23}
-use Rattle.tanner.specs.Flat.{joined, ends, places, edgesFrom}
-use Rattle.staircase.specs.Staircase.{taps, parityEntries, checkRow, checkRows}
-use Rattle.staircase.specs.Shape.{tapsAt, stairRows}
+use Rattle.tanner.specs.Flat.{joined, ends, places, edges_from}
+use Rattle.staircase.specs.Staircase.{taps, parity_entries, check_row, check_rows}
+use Rattle.staircase.specs.Shape.{taps_at, stair_rows}
 use Rattle.slots.specs.Layout.{threes}
 use Rattle.slots.proofs.Tables.{slot_by}
 use Rattle.staircase.proofs.Laid.{Laid}
 use Rattle.n576r23.proofs.Rows.{rows1, built1}
 
-unfoldable pub checkStarts1 : List ℕ
-checkStarts1 =
+unfoldable pub check_starts1 : List ℕ
+check_starts1 =
     0 ∷ 7 ∷ 15 ∷ 23 ∷ 31 ∷ 39 ∷ 47 ∷ 55 ∷ 63 ∷ 71 ∷ 79 ∷ 87 ∷ 95 ∷ 103 ∷ 111 ∷ 119 ∷ 127 ∷ 135 ∷ 143 ∷ 151 ∷ 159 ∷ 167 ∷ 175 ∷ 183 ∷ 191 ∷ 199 ∷
     207 ∷ 215 ∷ 223 ∷ 231 ∷ 239 ∷ 247 ∷ 255 ∷ 263 ∷ 271 ∷ 279 ∷ 287 ∷ 295 ∷ 303 ∷ 311 ∷ 319 ∷ 327 ∷ 335 ∷ 343 ∷ 351 ∷ 359 ∷ 367 ∷ 375 ∷ 383 ∷
     391 ∷ 399 ∷ 407 ∷ 415 ∷ 423 ∷ 431 ∷ 439 ∷ 447 ∷ 455 ∷ 463 ∷ 471 ∷ 479 ∷ 487 ∷ 495 ∷ 503 ∷ 511 ∷ 519 ∷ 527 ∷ 535 ∷ 543 ∷ 551 ∷ 559 ∷ 567 ∷
@@ -25,8 +25,8 @@ checkStarts1 =
     1271 ∷ 1279 ∷ 1287 ∷ 1295 ∷ 1303 ∷ 1311 ∷ 1319 ∷ 1327 ∷ 1335 ∷ 1343 ∷ 1351 ∷ 1359 ∷ 1367 ∷ 1375 ∷ 1383 ∷ 1391 ∷ 1399 ∷ 1407 ∷ 1415 ∷ 1423 ∷
     1431 ∷ 1439 ∷ 1447 ∷ 1455 ∷ 1463 ∷ 1471 ∷ 1479 ∷ 1487 ∷ 1495 ∷ 1503 ∷ 1511 ∷ 1519 ∷ 1527 ∷ 1535 ∷ []
 
-unfoldable pub checkBits1 : List ℕ
-checkBits1 =
+unfoldable pub check_bits1 : List ℕ
+check_bits1 =
     56 ∷ 93 ∷ 157 ∷ 226 ∷ 304 ∷ 322 ∷ 384 ∷ 58 ∷ 117 ∷ 164 ∷ 228 ∷ 305 ∷ 354 ∷ 385 ∷ 384 ∷ 6 ∷ 84 ∷ 165 ∷ 250 ∷ 311 ∷ 379 ∷ 386 ∷ 385 ∷ 42 ∷ 98
     ∷ 142 ∷ 248 ∷ 276 ∷ 379 ∷ 387 ∷ 386 ∷ 18 ∷ 82 ∷ 136 ∷ 240 ∷ 312 ∷ 378 ∷ 388 ∷ 387 ∷ 10 ∷ 101 ∷ 160 ∷ 253 ∷ 304 ∷ 345 ∷ 389 ∷ 388 ∷ 48 ∷ 89 ∷
     161 ∷ 238 ∷ 283 ∷ 321 ∷ 390 ∷ 389 ∷ 23 ∷ 105 ∷ 174 ∷ 254 ∷ 281 ∷ 322 ∷ 391 ∷ 390 ∷ 35 ∷ 76 ∷ 129 ∷ 201 ∷ 273 ∷ 335 ∷ 392 ∷ 391 ∷ 48 ∷ 76 ∷
@@ -193,6 +193,6 @@ places1 =
     1059 ∷ 1065 ∷ 1006 ∷ 1082 ∷ 1143 ∷ 1066 ∷ 1141 ∷ 1145 ∷ 964 ∷ 1147 ∷ 1150 ∷ 962 ∷ 963 ∷ 988 ∷ 990 ∷ 991 ∷ 996 ∷ 992 ∷ 997 ∷ 999 ∷ 1000 ∷ 1001 ∷
     1002 ∷ 1003 ∷ 1004 ∷ 1008 ∷ []
 
-pub laid1 : Laid n576r23 rows1 checkStarts1 checkBits1 6 taps1 places1
-unfolding joined ends checkRows checkRow taps parityEntries holds rows1 threes checkStarts1 checkBits1 stairRows tapsAt taps1 slot_by edgesFrom places places1
+pub laid1 : Laid n576r23 rows1 check_starts1 check_bits1 6 taps1 places1
+unfolding joined ends check_rows check_row taps parity_entries holds rows1 threes check_starts1 check_bits1 stair_rows taps_at taps1 slot_by edges_from places places1
 laid1 = record { built = built1; bits = refl; ends = refl; shape = refl; slots = refl }

@@ -9,24 +9,24 @@ use lib.Seq.{drop-drop}
 use Rattle.softmath.specs.declared.DecodeRule.{DecodeRule}
 use Rattle.rounds.specs.Told.{Chose}
 use Rattle.rounds.specs.declared.Decoded.{Decoded}
-use Rattle.one_round.specs.Held.{decodeAt}
-use Rattle.passes.specs.Codes.{checksBy, kindBy}
-use Rattle.rules.specs.Rules.{ruleOf}
+use Rattle.one_round.specs.Held.{decode_at}
+use Rattle.passes.specs.Codes.{checks_by, kind_by}
+use Rattle.rules.specs.Rules.{rule_of}
 use Rattle.batch_refusals.specs.Pairs.{pair, frame_of}
-use Rattle.one_frame.specs.Codes.{decodeBy, decodeOf}
+use Rattle.one_frame.specs.Codes.{decode_by, decode_of}
 use Rattle.one_frame.specs.Place.{lent}
 
 -- ---- one frame
 
-decode_is : (code : ℕ) (r : DecodeRule) (llr : List Float) → decodeAt code r llr ≡ decodeBy code r llr
-unfolding decodeBy checksBy kindBy
+decode_is : (code : ℕ) (r : DecodeRule) (llr : List Float) → decode_at code r llr ≡ decode_by code r llr
+unfolding decode_by checks_by kind_by
 decode_is zero r llr = refl
 decode_is (suc zero) r llr = refl
 decode_is (suc (suc zero)) r llr = refl
 decode_is (suc (suc (suc n))) r llr = refl
 
 pub frame-chosen : (code rule : ℕ) (scale : Float) (limit : ℕ) (llr : List Float) (k : ℕ) (found : Decoded) (bits : List ℕ) (r : DecodeRule)
-    → r ≡ ruleOf code rule scale → Chose (decodeAt code r llr) limit k found bits → Chose (decodeOf code rule scale llr) limit k found bits
+    → r ≡ rule_of code rule scale → Chose (decode_at code r llr) limit k found bits → Chose (decode_of code rule scale llr) limit k found bits
 frame-chosen code rule scale limit llr k found bits r e c = rw (decode_is code r llr, e) at c
 
 -- ---- the places of frame j
@@ -39,13 +39,13 @@ part_placed l j {size = size} e o =
     rw (e, o, s, drop-drop size (j * size) l)
 
 -- the values from an offset on, as a part of the slice
-pub part-frame : (values : List Float) (offset : ℕ) {n size : ℕ} → n ≡ size
+pub part_frame : (values : List Float) (offset : ℕ) {n size : ℕ} → n ≡ size
     → take (offset + n - offset) (drop offset values) ≡ frame_of values (pair offset size)
 unfolding frame_of
-part-frame values offset {size = size} e =
+part_frame values offset {size = size} e =
     let s : offset + size - offset ≡ size = omega arith in
     rw (e, s)
 
 -- the lent memory, part by part
-pub lent-are : {b c r f b' c' r' f' : List ℕ} {w w' : List Float} → b ≡ b' → c ≡ c' → r ≡ r' → f ≡ f' → w ≡ w' → lent b c r f w ≡ lent b' c' r' f' w'
-lent-are b c r f w = cc
+pub lent_are : {b c r f b' c' r' f' : List ℕ} {w w' : List Float} → b ≡ b' → c ≡ c' → r ≡ r' → f ≡ f' → w ≡ w' → lent b c r f w ≡ lent b' c' r' f' w'
+lent_are b c r f w = cc

@@ -2,16 +2,16 @@
 use Rattle.std.specs.Prelude.{List, ℕ, Float}
 use Rattle.softmath.specs.declared.DecodeRule.{DecodeRule}
 use Rattle.one_round.specs.Round.{Decode}
-use Rattle.rules.specs.Rules.{ruleOf}
-use Rattle.decoders.specs.Decodes.{staircaseDecode, ft8Decode}
+use Rattle.rules.specs.Rules.{rule_of}
+use Rattle.decoders.specs.Decodes.{staircase_decode, ft8_decode}
 -- N, a frame's values, and K, its message bits: defined in crate `numbered` (specs/Codes.antt)
-pub use Rattle.numbered.specs.Codes.{byCode}
-unfoldable pub use Rattle.numbered.specs.Codes.{sizeN, sizeK}
+pub use Rattle.numbered.specs.Codes.{by_code}
+unfoldable pub use Rattle.numbered.specs.Codes.{size_n, size_k}
 
 -- the decode of a frame's values by a check step
-unfoldable pub decodeBy : ℕ → DecodeRule → List Float → Decode
-decodeBy code r llr = byCode code (λ c. staircaseDecode c r llr) (ft8Decode r llr)
+unfoldable pub decode_by : ℕ → DecodeRule → List Float → Decode
+decode_by code r llr = by_code code (λ c. staircase_decode c r llr) (ft8_decode r llr)
 
 -- and by the reading of a rule and a scale
-abbrev pub decodeOf : ℕ → ℕ → Float → List Float → Decode
-decodeOf code rule scale llr = decodeBy code (ruleOf code rule scale) llr
+abbrev pub decode_of : ℕ → ℕ → Float → List Float → Decode
+decode_of code rule scale llr = decode_by code (rule_of code rule scale) llr

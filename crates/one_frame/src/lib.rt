@@ -3,7 +3,7 @@ ghost use Rattle.std.specs.Prelude.{◌≡◌, ◌≤◌, ◌<◌, length};
 ghost use Rattle.rounds.specs.Told.{Chose};
 ghost use Rattle.work_area.specs.Area.{cleared};
 ghost use Rattle.batch_refusals.specs.Pairs.{pair, frame_of};
-ghost use Rattle.one_frame.specs.Codes.{sizeN, sizeK, decodeOf};
+ghost use Rattle.one_frame.specs.Codes.{size_n, size_k, decode_of};
 ghost use Rattle.one_frame.specs.Place.{lent, PlaceFits, placed};
 
 use rounds::Decoded;
@@ -19,10 +19,10 @@ pub fn decode_frame(
     work: &mut [f32],
 ) -> Decoded
     requires code_bound { code < 4 }
-    requires llr_len { length llr.now ≡ sizeN code }
-    requires bits_len_bound { length bits.old ≤ sizeN code }
+    requires llr_len { length llr.now ≡ size_n code }
+    requires bits_len_bound { length bits.old ≤ size_n code }
     requires in_bounds { 3070 ≤ length work.old }
-    ensures chose { Chose (decodeOf code rule scale llr.now) limit (length bits.old) result bits.new }
+    ensures chose { Chose (decode_of code rule scale llr.now) limit (length bits.old) result bits.new }
     ensures work_unchanged { cleared work.new ≡ cleared work.old }
 {
     let step = rules::rule_of(code, rule, scale);
@@ -46,7 +46,7 @@ pub fn decode_place(
 )
     requires { PlaceFits code offset j values.now (lent bits.old counts.old rounds.old firsts.old work.old) }
     ensures { lent bits.new counts.new rounds.new firsts.new (cleared work.new)
-        ≡ placed (decodeOf code rule scale (frame_of values.now (pair offset (sizeN code)))) limit (sizeK code) j
+        ≡ placed (decode_of code rule scale (frame_of values.now (pair offset (size_n code)))) limit (size_k code) j
         (lent bits.old counts.old rounds.old firsts.old work.old) }
 {
     let from = offset as usize;

@@ -1,12 +1,12 @@
 // One line of a listing, written into a lent buffer: the head line, or a frame's.
 ghost use Rattle.std.specs.Prelude.{◌+◌, ◌≤◌, length};
 ghost use Rattle.text.specs.Written.{Written};
-ghost use Rattle.one_line.specs.Line.{headLine, cleanOrOpen, firstField, frameLine};
+ghost use Rattle.one_line.specs.Line.{head_line, clean_or_open, first_field, frame_line};
 
 // The head line: the four numbers as given.
 pub fn head_line(out: &mut [u8], at: usize, code: u16, rule: u16, limit: u16, frames: u16) -> usize
-    requires { at + length (headLine code rule limit frames) ≤ length out.old }
-    ensures { Written out.old at (headLine code rule limit frames) out.new result }
+    requires { at + length (head_line code rule limit frames) ≤ length out.old }
+    ensures { Written out.old at (head_line code rule limit frames) out.new result }
 {
     let a = text::put_field(out, at, b"code ", code);
     let b = text::put_field(out, a, b" rule ", rule);
@@ -17,8 +17,8 @@ pub fn head_line(out: &mut [u8], at: usize, code: u16, rule: u16, limit: u16, fr
 
 // The word of a frame, with the spaces around it.
 fn clean_or_open(out: &mut [u8], at: usize, clean: bool) -> usize
-    requires { at + length (cleanOrOpen clean) ≤ length out.old }
-    ensures { Written out.old at (cleanOrOpen clean) out.new result }
+    requires { at + length (clean_or_open clean) ≤ length out.old }
+    ensures { Written out.old at (clean_or_open clean) out.new result }
 {
     if clean {
         return text::put_text(out, at, b" clean ");
@@ -28,8 +28,8 @@ fn clean_or_open(out: &mut [u8], at: usize, clean: bool) -> usize
 
 // The first unsatisfied check, where there is one.
 fn first_field(out: &mut [u8], at: usize, count: u16, first: u16) -> usize
-    requires { at + length (firstField count first) ≤ length out.old }
-    ensures { Written out.old at (firstField count first) out.new result }
+    requires { at + length (first_field count first) ≤ length out.old }
+    ensures { Written out.old at (first_field count first) out.new result }
 {
     if count == 0 {
         return at;
@@ -48,8 +48,8 @@ pub fn frame_line(
     bits: &[u8],
     first: u16,
 ) -> usize
-    requires { at + length (frameLine place count rounds clean bits.now first) ≤ length out.old }
-    ensures { Written out.old at (frameLine place count rounds clean bits.now first) out.new result }
+    requires { at + length (frame_line place count rounds clean bits.now first) ≤ length out.old }
+    ensures { Written out.old at (frame_line place count rounds clean bits.now first) out.new result }
 {
     let a = text::put_decimal(out, at, place);
     let b = text::put_field(out, a, b" ", count);

@@ -15,43 +15,43 @@ use lib.ListN.{length, get_or, take, length-set, length-map}
 use lib.Seq.{get_or-set_same, get_or-set_other, ext_get_or, append_snoc}
 use Rattle.lists.proofs.Parts.{map_at}
 use Rattle.softmath.specs.Functions.{decide}
-use Rattle.softmath.specs.VariableNode.{decisionSum, newMessages, answersAt, Distinct, none, more, put_at}
-use Rattle.softmath.proofs.Messages.{put_other, put_same, put-length, answers-length, messages-length}
+use Rattle.softmath.specs.VariableNode.{decision_sum, new_messages, answers_at, Distinct, none, more, put_at}
+use Rattle.softmath.proofs.Messages.{put_other, put_same, put-length, answers-length, messages_length}
 use Rattle.tanner.specs.Flat.{joined, places}
 use Rattle.lists.specs.Below.{Below}
-use Rattle.tanner.proofs.Places.{places-stand, rank-inside, rank-place}
-use Rattle.variable_node.specs.Passes.{Pass, passOf, bitDone, turns}
-use Rattle.one_round.specs.Round.{Decode, channel, heard, decidedFrom, decided, sentFrom, sent}
+use Rattle.tanner.proofs.Places.{places_stand, rank-inside, rank-place}
+use Rattle.variable_node.specs.Passes.{Pass, pass_of, bit_done, turns}
+use Rattle.one_round.specs.Round.{Decode, channel, heard, decided_from, decided, sent_from, sent}
 
 -- ---- a position's edges
 
 -- they are distinct, since they rise
-edges-above : (p e : ℕ) (xs : List ℕ) (k : ℕ) → k < length (places p (suc e) xs) → get_or (places p (suc e) xs) k 0 ≢ e
-edges-above p e xs k h q = omega (arith, (places-stand p (suc e) xs k h).place)
+edges_above : (p e : ℕ) (xs : List ℕ) (k : ℕ) → k < length (places p (suc e) xs) → get_or (places p (suc e) xs) k 0 ≢ e
+edges_above p e xs k h q = omega (arith, (places_stand p (suc e) xs k h).place)
 
-distinct-by : (p e : ℕ) (xs : List ℕ) (t : Bool) → Distinct (places p (suc e) xs) → Distinct (cond t (e ∷ places p (suc e) xs) (places p (suc e) xs))
-distinct-by p e xs true d = more (edges-above p e xs) d
-distinct-by p e xs false d = d
+distinct_by : (p e : ℕ) (xs : List ℕ) (t : Bool) → Distinct (places p (suc e) xs) → Distinct (cond t (e ∷ places p (suc e) xs) (places p (suc e) xs))
+distinct_by p e xs true d = more (edges_above p e xs) d
+distinct_by p e xs false d = d
 
-pub edges-distinct : (p e : ℕ) (xs : List ℕ) → Distinct (places p e xs)
+pub edges_distinct : (p e : ℕ) (xs : List ℕ) → Distinct (places p e xs)
 unfolding places
-edges-distinct p e [] = none
-edges-distinct p e (x ∷ xs) = distinct-by p e xs (eqb x p) (edges-distinct p (suc e) xs)
+edges_distinct p e [] = none
+edges_distinct p e (x ∷ xs) = distinct_by p e xs (eqb x p) (edges_distinct p (suc e) xs)
 
 module _ (flat : List ℕ) (p : ℕ) where
   edge-low : (k : ℕ) → k < length (places p 0 flat) → get_or (places p 0 flat) k 0 < length flat
-  edge-low k h = let s = places-stand p 0 flat k h in omega (arith, s.place, s.inside)
+  edge-low k h = let s = places_stand p 0 flat k h in omega (arith, s.place, s.inside)
 
   edge-holds : (k : ℕ) → k < length (places p 0 flat) → get_or flat (get_or (places p 0 flat) k 0) 0 ≡ p
   edge-holds k h =
-      let s = places-stand p 0 flat k h in
+      let s = places_stand p 0 flat k h in
       let e : get_or (places p 0 flat) k 0 ≡ s.index = omega (arith, s.place) in
       rw e s.holds
 
 -- what lies at the places of edges
 answers-placed : (place : ℕ → ℕ) (w ans : List Float) (es : List ℕ) → ((k : ℕ) → k < length es → get_or w (place (get_or es k 0)) nan ≡ get_or ans (get_or es k 0) nan)
-    → answersAt w (map place es) ≡ answersAt ans es
-unfolding answersAt
+    → answers_at w (map place es) ≡ answers_at ans es
+unfolding answers_at
 answers-placed place w ans [] h = refl
 answers-placed place w ans (e ∷ es) h =
     let a = h 0 (omega arith) in
@@ -59,40 +59,40 @@ answers-placed place w ans (e ∷ es) h =
     rw (a, b)
 
 -- places that differ where the edges do are distinct
-distinct-placed : (place : ℕ → ℕ) (n : ℕ) → ((e f : ℕ) → e < n → f < n → place e ≡ place f → e ≡ f) → {es : List ℕ}
+distinct_placed : (place : ℕ → ℕ) (n : ℕ) → ((e f : ℕ) → e < n → f < n → place e ≡ place f → e ≡ f) → {es : List ℕ}
     → ((k : ℕ) → k < length es → get_or es k 0 < n)
     → Distinct es → Distinct (map place es)
-distinct-placed place n apart low none = none
-distinct-placed place n apart low (more {e = e} {es = es} a d) =
+distinct_placed place n apart low none = none
+distinct_placed place n apart low (more {e = e} {es = es} a d) =
     more {es = map place es}
     (λ k l q. let o : k < length es = omega (arith, l, length-map es place) in
     a k o (apart (get_or es k 0) e (low (suc k) (omega (arith, o))) (low 0 (omega arith)) (sym (map_at place es k 0 0 o) ∙ q)))
-    (distinct-placed place n apart (λ k l. low (suc k) (omega arith)) d)
+    (distinct_placed place n apart (λ k l. low (suc k) (omega arith)) d)
 
 -- ---- the definition, position by position and edge by edge
 
 module _ (d : Decode) (ans : List Float) where
-  decided-length : (p : ℕ) (ls : List Float) → length (decidedFrom d ans p ls) ≡ length ls
-  unfolding decidedFrom
+  decided-length : (p : ℕ) (ls : List Float) → length (decided_from d ans p ls) ≡ length ls
+  unfolding decided_from
   decided-length p [] = refl
   decided-length p (l ∷ ls) = ap suc (decided-length (suc p) ls)
 
   decided-at : (p : ℕ) (ls : List Float) (i : ℕ) → i < length ls
-      → get_or (decidedFrom d ans p ls) i 0 ≡ decide (decisionSum (get_or ls i nan) (heard d ans (p + i)))
-  unfolding decidedFrom
+      → get_or (decided_from d ans p ls) i 0 ≡ decide (decision_sum (get_or ls i nan) (heard d ans (p + i)))
+  unfolding decided_from
   decided-at p [] i h = absurd (omega arith)
   decided-at p (l ∷ ls) zero h = rw add-zero refl
   decided-at p (l ∷ ls) (suc i) h = rw (add-suc, ← suc-add) (decided-at (suc p) ls i (omega arith))
 
-  sent-length : (passed ps : List ℕ) → length (sentFrom d ans passed ps) ≡ length ps
-  unfolding sentFrom
+  sent-length : (passed ps : List ℕ) → length (sent_from d ans passed ps) ≡ length ps
+  unfolding sent_from
   sent-length passed [] = refl
   sent-length passed (p ∷ ps) = ap suc (sent-length (passed ++ (p ∷ [])) ps)
 
   sent-at : (passed ps : List ℕ) (i : ℕ) → i < length ps
-      → get_or (sentFrom d ans passed ps) i nan
-      ≡ get_or (newMessages d.kind (channel d (get_or ps i 0)) (heard d ans (get_or ps i 0))) (length (places (get_or ps i 0) 0 (passed ++ take i ps))) nan
-  unfolding sentFrom
+      → get_or (sent_from d ans passed ps) i nan
+      ≡ get_or (new_messages d.kind (channel d (get_or ps i 0)) (heard d ans (get_or ps i 0))) (length (places (get_or ps i 0) 0 (passed ++ take i ps))) nan
+  unfolding sent_from
   sent-at passed [] i h = absurd (omega arith)
   sent-at passed (p ∷ ps) zero h = rw append-nil refl
   sent-at passed (p ∷ ps) (suc i) h = rw (append_snoc passed p (take i ps)) at (sent-at (passed ++ (p ∷ [])) ps i (omega arith))
@@ -108,7 +108,7 @@ module _ (d : Decode) (ans w₀ : List Float) (word₀ : List ℕ) (place : ℕ 
 
   -- the new message of edge e
   abbrev fresh : ℕ → Float
-  fresh e = get_or (newMessages d.kind (channel d (get_or flat e 0)) (heard d ans (get_or flat e 0))) (length (places (get_or flat e 0) 0 (take e flat))) nan
+  fresh e = get_or (new_messages d.kind (channel d (get_or flat e 0)) (heard d ans (get_or flat e 0))) (length (places (get_or flat e 0) 0 (take e flat))) nan
 
   -- after the bits below b
   record After (b : ℕ) (s : Pass) : Type 0 where
@@ -116,7 +116,7 @@ module _ (d : Decode) (ans w₀ : List Float) (word₀ : List ℕ) (place : ℕ 
     wide : length s.word ≡ length word₀
     new : (e : ℕ) → e < length flat → get_or flat e 0 < b → get_or s.work (place e) nan ≡ fresh e
     old : (e : ℕ) → e < length flat → b ≤ get_or flat e 0 → get_or s.work (place e) nan ≡ get_or ans e nan
-    done : (i : ℕ) → i < b → get_or s.word i 0 ≡ decide (decisionSum (channel d i) (heard d ans i))
+    done : (i : ℕ) → i < b → get_or s.word i 0 ≡ decide (decision_sum (channel d i) (heard d ans i))
 
   module _ (b : ℕ) (s : Pass) (a : After b s) (h : b < length word₀) where
     abbrev own : List ℕ
@@ -131,20 +131,20 @@ module _ (d : Decode) (ans w₀ : List Float) (word₀ : List ℕ) (place : ℕ 
     placed : (k : ℕ) → k < length own → get_or edges k 0 ≡ place (get_or own k 0)
     placed k l = map_at place own k 0 0 l
 
-    hears : answersAt s.work edges ≡ heard d ans b
+    hears : answers_at s.work edges ≡ heard d ans b
     unfolding heard
     hears = answers-placed place s.work ans own (λ k l. a.old (get_or own k 0) (edge-low flat b k l) (omega (arith, edge-holds flat b k l)))
 
     abbrev messages : List Float
-    messages = newMessages d.kind (channel d b) (heard d ans b)
+    messages = new_messages d.kind (channel d b) (heard d ans b)
 
     -- the work area after the turn
     abbrev turned : List Float
     turned = put_at edges messages s.work
 
-    work-is : (bitDone d.kind (channel d b) edges b s).work ≡ turned
-    unfolding bitDone
-    work-is = ap (λ (l : List Float). put_at edges (newMessages d.kind (channel d b) l) s.work) hears
+    work-is : (bit_done d.kind (channel d b) edges b s).work ≡ turned
+    unfolding bit_done
+    work-is = ap (λ (l : List Float). put_at edges (new_messages d.kind (channel d b) l) s.work) hears
 
     within : Below (length s.work) edges
     unfolding Below
@@ -172,8 +172,8 @@ module _ (d : Decode) (ans w₀ : List Float) (word₀ : List ℕ) (place : ℕ 
         let rank = length (places b 0 (take e flat)) in
         let ranked : rank < length own = rw q at (rank-inside flat e l) in
         let there : get_or own rank 0 ≡ e = rw q at (rank-place flat e l) in
-        let hold : length messages ≡ length edges = messages-length d.kind (channel d b) (heard d ans b) ∙ heard-length ∙ sym many in
-        let distinct = distinct-placed place (length flat) apart (edge-low flat b) (edges-distinct b 0 flat) in
+        let hold : length messages ≡ length edges = messages_length d.kind (channel d b) (heard d ans b) ∙ heard-length ∙ sym many in
+        let distinct = distinct_placed place (length flat) apart (edge-low flat b) (edges_distinct b 0 flat) in
         let got = put_same messages s.work rank distinct within hold (omega (arith, many)) in
         rw q (rw (placed rank ranked ∙ ap place there) at got)
 
@@ -182,18 +182,18 @@ module _ (d : Decode) (ans w₀ : List Float) (word₀ : List ℕ) (place : ℕ 
     new_by e l m (no n) = here e l (omega arith)
 
     done-by : (i : ℕ) → i < suc b → Dec (i < b)
-        → get_or (bitDone d.kind (channel d b) edges b s).word i 0 ≡ decide (decisionSum (channel d i) (heard d ans i))
-    unfolding bitDone
+        → get_or (bit_done d.kind (channel d b) edges b s).word i 0 ≡ decide (decision_sum (channel d i) (heard d ans i))
+    unfolding bit_done
     done-by i l (yes y) = get_or-set_other s.word b i _ 0 (λ q. omega arith) ∙ a.done i y
     done-by i l (no n) =
         let q : i ≡ b = omega arith in
         rw (q, hears) (get_or-set_same s.word b _ 0 (omega (arith, a.wide)))
 
-    wide-more : length (bitDone d.kind (channel d b) edges b s).word ≡ length word₀
-    unfolding bitDone
+    wide-more : length (bit_done d.kind (channel d b) edges b s).word ≡ length word₀
+    unfolding bit_done
     wide-more = length-set s.word b _ ∙ a.wide
 
-    after_more : After (suc b) (bitDone d.kind (channel d b) edges b s)
+    after_more : After (suc b) (bit_done d.kind (channel d b) edges b s)
     after_more = record {
       size = ap length work-is ∙ put-length edges messages s.work ∙ a.size;
       wide = wide-more;
@@ -202,7 +202,7 @@ module _ (d : Decode) (ans w₀ : List Float) (word₀ : List ℕ) (place : ℕ 
       done = λ i l. done-by i l (dec_lt i b);
     }
 
-  after_none : After 0 (passOf word₀ w₀)
+  after_none : After 0 (pass_of word₀ w₀)
   after_none = record {
     size = refl;
     wide = refl;
@@ -213,17 +213,17 @@ module _ (d : Decode) (ans w₀ : List Float) (word₀ : List ℕ) (place : ℕ 
 
   -- the bits' turns, given what a turn does to a bit
   module _ (step : ℕ → Pass → Pass) (n : ℕ)
-      (steps : (b : ℕ) (s : Pass) → b < n → step b s ≡ bitDone d.kind (channel d b) (map place (places b 0 (joined d.checks))) b s)
+      (steps : (b : ℕ) (s : Pass) → b < n → step b s ≡ bit_done d.kind (channel d b) (map place (places b 0 (joined d.checks))) b s)
       (count : length word₀ ≡ n) (frame : length d.llr ≡ n) (low : Below n (joined d.checks)) where
-    after-turns : (b : ℕ) → b ≤ n → After b (turns step b (passOf word₀ w₀))
+    after-turns : (b : ℕ) → b ≤ n → After b (turns step b (pass_of word₀ w₀))
     unfolding turns
     after-turns zero l = after_none
     after-turns (suc b) l =
-        let s = turns step b (passOf word₀ w₀) in
+        let s = turns step b (pass_of word₀ w₀) in
         rw (steps b s (omega arith)) (after_more b s (after-turns b (omega arith)) (omega arith))
 
     abbrev ended : Pass
-    ended = turns step n (passOf word₀ w₀)
+    ended = turns step n (pass_of word₀ w₀)
 
     pub turns-word : ended.word ≡ decided d ans
     turns-word =

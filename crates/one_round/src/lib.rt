@@ -1,8 +1,8 @@
 // One round at the code with a given number and by any decode rule, the messages by slots; and the count of a word.
 ghost use Rattle.std.specs.Prelude.{◌≡◌, List, ◌<◌, Float, length};
-ghost use Rattle.tanner.specs.Masked.{countMasked, syndromeMasked};
-ghost use Rattle.tanner.specs.Found.{syndromeOf};
-ghost use Rattle.passes.specs.Codes.{sizeN, checksBy, room};
+ghost use Rattle.tanner.specs.Masked.{count_masked, syndrome_masked};
+ghost use Rattle.tanner.specs.Found.{syndrome_of};
+ghost use Rattle.passes.specs.Codes.{size_n, checks_by, room};
 ghost use Rattle.one_round.specs.Held.{HeldBy, RoundBy};
 
 use softmath::DecodeRule;
@@ -11,8 +11,8 @@ use tanner::Counted;
 // The count of a word's low bits, and the first check that it includes.
 pub fn counted(code: u32, hard: &[u8]) -> Counted
     requires code_bound { code < 4 }
-    requires hard_len { length hard.now ≡ sizeN code }
-    ensures { syndromeOf result ≡ syndromeMasked 1 (checksBy code) hard.now }
+    requires hard_len { length hard.now ≡ size_n code }
+    ensures { syndrome_of result ≡ syndrome_masked 1 (checks_by code) hard.now }
 {
     let count = counting::count(code, hard);
     let first = counting::first_counted(code, count, hard);
@@ -22,12 +22,12 @@ pub fn counted(code: u32, hard: &[u8]) -> Counted
 // A round: check step, decision, new messages, and the count of the word decided.
 pub fn round(code: u32, rule: DecodeRule, llr: &[f32], messages: &mut [f32], hard: &mut [u8]) -> u16
     requires code_bound { code < 4 }
-    requires llr_len { length llr.now ≡ sizeN code }
+    requires llr_len { length llr.now ≡ size_n code }
     requires messages_len { length messages.old ≡ room code }
-    requires hard_len { length hard.old ≡ sizeN code }
+    requires hard_len { length hard.old ≡ size_n code }
     ensures round_by { (ms : List Float) → HeldBy code messages.old ms
         → RoundBy code rule llr.now ms messages.new hard.new result }
-    ensures value { result ≡ countMasked 1 (checksBy code) hard.new }
+    ensures value { result ≡ count_masked 1 (checks_by code) hard.new }
 {
     passes::check_pass(code, rule, messages);
     passes::bit_pass(code, llr, messages, hard);

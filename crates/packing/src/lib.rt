@@ -2,17 +2,17 @@
 // a word 174 and 22.
 ghost use Rattle.std.specs.Prelude.{◌≡◌, ◌<◌, ◌≤◌, ◌/◌, length, get_or};
 ghost use Rattle.refusal.specs.Outcome.{judged, kept};
-ghost use Rattle.refusal.specs.Answers.{statusOf};
-ghost use Rattle.bits.specs.Bits.{bits, bytesFor};
-ghost use Rattle.packing.specs.Packing.{packedWord, unpackedWord, packRefusals, unpackRefusals};
+ghost use Rattle.refusal.specs.Answers.{status_of};
+ghost use Rattle.bits.specs.Bits.{bits, bytes_for};
+ghost use Rattle.packing.specs.Packing.{packed_word, unpacked_word, pack_refusals, unpack_refusals};
 
 use refusal::{Refusal, Status};
 
 // ---- packing
 
 fn write_bytes(word: &[u8], bytes: &mut [u8])
-    requires { length bytes.old ≡ bytesFor (length word.now) }
-    ensures { bytes.new ≡ packedWord word.now }
+    requires { length bytes.old ≡ bytes_for (length word.now) }
+    ensures { bytes.new ≡ packed_word word.now }
 {
     let mut i = 0;
     while i < bytes.len() {
@@ -23,9 +23,9 @@ fn write_bytes(word: &[u8], bytes: &mut [u8])
 
 // The low bits of the word's bytes, packed; the last byte is filled with zeros.
 pub fn pack_bits(word: &[u8], bytes: &mut [u8]) -> Status
-    ensures result_value { statusOf result ≡ judged (packRefusals word.now bytes.old) tt }
+    ensures result_value { status_of result ≡ judged (pack_refusals word.now bytes.old) tt }
     ensures bytes_after { bytes.new
-        ≡ kept (packRefusals word.now bytes.old) bytes.old (packedWord word.now) }
+        ≡ kept (pack_refusals word.now bytes.old) bytes.old (packed_word word.now) }
 {
     if bytes.len() != bits::bytes_for(word.len()) {
         return Status::Refused(Refusal::OutputLength);
@@ -46,8 +46,8 @@ fn bit_in(bytes: &[u8], i: usize) -> u8
 }
 
 fn write_bits(bytes: &[u8], word: &mut [u8])
-    requires { bytesFor (length word.old) ≤ length bytes.now }
-    ensures { word.new ≡ unpackedWord (length word.old) bytes.now }
+    requires { bytes_for (length word.old) ≤ length bytes.now }
+    ensures { word.new ≡ unpacked_word (length word.old) bytes.now }
 {
     let mut i = 0;
     while i < word.len() {
@@ -58,10 +58,10 @@ fn write_bits(bytes: &[u8], word: &mut [u8])
 
 // As many bits as the word has places, from the front of the bytes.
 pub fn unpack_bits(bytes: &[u8], word: &mut [u8]) -> Status
-    ensures result_value { statusOf result ≡ judged (unpackRefusals bytes.now word.old) tt }
+    ensures result_value { status_of result ≡ judged (unpack_refusals bytes.now word.old) tt }
     ensures word_after { word.new
-        ≡ kept (unpackRefusals bytes.now word.old) word.old
-        (unpackedWord (length word.old) bytes.now) }
+        ≡ kept (unpack_refusals bytes.now word.old) word.old
+        (unpacked_word (length word.old) bytes.now) }
 {
     if bytes.len() < bits::bytes_for(word.len()) {
         return Status::Refused(Refusal::InputLength);

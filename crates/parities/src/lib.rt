@@ -1,7 +1,7 @@
 // The encoding of each staircase code by its number: the message bytes, and the parity bits filled in after them.
 // A function a code names its table, since a constant is laid where the function that names it starts.
 ghost use Rattle.std.specs.Prelude.{◌≡◌, ◌++◌, ◌≤◌, length, drop};
-ghost use Rattle.construction.specs.Codes.{n512r12, n576r23, n512r34, blockLength};
+ghost use Rattle.construction.specs.Codes.{n512r12, n576r23, n512r34, block_length};
 ghost use Rattle.staircase.specs.Staircase.{encoded};
 ghost use Rattle.staircase.specs.Codes.{code_of, columns, checks};
 ghost use Rattle.stair_parity.specs.Filling.{filled};
@@ -10,7 +10,7 @@ use staircase::tables::{N512R12_TAPS, N512R34_TAPS, N576R23_TAPS};
 
 // The parity bits of code 0.
 fn fill_n512r12(codeword: &mut [u8])
-    requires { length codeword.old ≡ blockLength n512r12 }
+    requires { length codeword.old ≡ block_length n512r12 }
     ensures { codeword.new ≡ filled (checks n512r12) n512r12.k codeword.old }
 {
     let taps = N512R12_TAPS;
@@ -22,7 +22,7 @@ fn fill_n512r12(codeword: &mut [u8])
 
 // The parity bits of code 1.
 fn fill_n576r23(codeword: &mut [u8])
-    requires { length codeword.old ≡ blockLength n576r23 }
+    requires { length codeword.old ≡ block_length n576r23 }
     ensures { codeword.new ≡ filled (checks n576r23) n576r23.k codeword.old }
 {
     let taps = N576R23_TAPS;
@@ -34,7 +34,7 @@ fn fill_n576r23(codeword: &mut [u8])
 
 // The parity bits of code 2.
 fn fill_n512r34(codeword: &mut [u8])
-    requires { length codeword.old ≡ blockLength n512r34 }
+    requires { length codeword.old ≡ block_length n512r34 }
     ensures { codeword.new ≡ filled (checks n512r34) n512r34.k codeword.old }
 {
     let taps = N512R34_TAPS;
@@ -46,7 +46,7 @@ fn fill_n512r34(codeword: &mut [u8])
 
 // The parity bits of the code with that number, in a codeword whose message bytes are in place.
 fn fill(code: u32, codeword: &mut [u8])
-    requires { length codeword.old ≡ blockLength (code_of code) }
+    requires { length codeword.old ≡ block_length (code_of code) }
     ensures { codeword.new ≡ filled (checks (code_of code)) (code_of code).k codeword.old }
 {
     if code == 0 {
@@ -73,7 +73,7 @@ fn copy_message(message: &[u8], codeword: &mut [u8])
 // The codeword of a message of K bytes, whose low bits are its bits.
 pub fn encode(code: u32, message: &[u8], codeword: &mut [u8])
     requires message_len { length message.now ≡ (code_of code).k }
-    requires codeword_len { length codeword.old ≡ blockLength (code_of code) }
+    requires codeword_len { length codeword.old ≡ block_length (code_of code) }
     ensures { codeword.new ≡ encoded (code_of code).m (columns (code_of code)) message.now }
 {
     copy_message(message, codeword);

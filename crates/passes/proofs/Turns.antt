@@ -10,10 +10,10 @@ use lib.ListN.{get_or}
 use Rattle.softmath.specs.declared.SumKind.{SumKind}
 use Rattle.softmath.specs.declared.SumKind.TheVariants.{Total}
 use Rattle.tanner.specs.Checks.{Checks}
-use Rattle.slots.specs.Layout.{slotEdges, scattered, threeAt}
-use Rattle.variable_node.specs.Passes.{turns, Pass, bitDone, threeTurn, threeFirst}
-use Rattle.parity_node.specs.Parity.{parityTurn, parityFirst}
-use Rattle.passes.specs.Passes.{slotFirst, slotTurn, StairEdges}
+use Rattle.slots.specs.Layout.{slot_edges, scattered, three_at}
+use Rattle.variable_node.specs.Passes.{turns, Pass, bit_done, three_turn, three_first}
+use Rattle.parity_node.specs.Parity.{parity_turn, parity_first}
+use Rattle.passes.specs.Passes.{slot_first, slot_turn, StairEdges}
 
 module _ {A : Type 0} (h : ℕ → A → A) where
   -- steps that agree at each turn
@@ -35,33 +35,33 @@ module _ {A : Type 0} (h : ℕ → A → A) where
 
 -- ---- bits whose places are all listed
 
-module _ (cs : Checks) (m : ℕ) (llr : List Float) (table : List ℕ) (n : ℕ) (listed : (b : ℕ) → b < n → threeAt table b ≡ slotEdges cs m b) where
-  pub all_first : (w : List Float) → turns (threeFirst llr table) n w ≡ turns (slotFirst cs m llr) n w
-  unfolding threeFirst slotFirst
-  all_first w = turns_same (slotFirst cs m llr) (threeFirst llr table) n w (λ b s l. ap (λ (es : List ℕ). scattered (get_or llr b nan) es s) (listed b l))
+module _ (cs : Checks) (m : ℕ) (llr : List Float) (table : List ℕ) (n : ℕ) (listed : (b : ℕ) → b < n → three_at table b ≡ slot_edges cs m b) where
+  pub all_first : (w : List Float) → turns (three_first llr table) n w ≡ turns (slot_first cs m llr) n w
+  unfolding three_first slot_first
+  all_first w = turns_same (slot_first cs m llr) (three_first llr table) n w (λ b s l. ap (λ (es : List ℕ). scattered (get_or llr b nan) es s) (listed b l))
 
-  pub all-bits : (kind : SumKind) (s : Pass) → turns (threeTurn kind llr table) n s ≡ turns (slotTurn cs m kind llr) n s
-  unfolding threeTurn slotTurn
+  pub all-bits : (kind : SumKind) (s : Pass) → turns (three_turn kind llr table) n s ≡ turns (slot_turn cs m kind llr) n s
+  unfolding three_turn slot_turn
   all-bits kind s =
-      turns_same (slotTurn cs m kind llr) (threeTurn kind llr table) n s (λ b t l. ap (λ (es : List ℕ). bitDone kind (get_or llr b nan) es b t) (listed b l))
+      turns_same (slot_turn cs m kind llr) (three_turn kind llr table) n s (λ b t l. ap (λ (es : List ℕ). bit_done kind (get_or llr b nan) es b t) (listed b l))
 
 -- ---- message bits, then parity bits
 
 module _ (cs : Checks) (k m from : ℕ) (table : List ℕ) (e : StairEdges cs k m from table) (llr : List Float) where
-  pub stair-first-turns : (w w1 w2 : List Float) → w1 ≡ turns (threeFirst llr table) k w → w2 ≡ turns (parityFirst llr k m from) m w1
-      → w2 ≡ turns (slotFirst cs m llr) (k + m) w
-  unfolding threeFirst parityFirst slotFirst
+  pub stair-first-turns : (w w1 w2 : List Float) → w1 ≡ turns (three_first llr table) k w → w2 ≡ turns (parity_first llr k m from) m w1
+      → w2 ≡ turns (slot_first cs m llr) (k + m) w
+  unfolding three_first parity_first slot_first
   stair-first-turns w w1 w2 one two =
-      two ∙ ap (turns (parityFirst llr k m from) m) one
-      ∙ both-turns (slotFirst cs m llr) (threeFirst llr table) (parityFirst llr k m from) k m w
+      two ∙ ap (turns (parity_first llr k m from) m) one
+      ∙ both-turns (slot_first cs m llr) (three_first llr table) (parity_first llr k m from) k m w
       (λ b s l. ap (λ (es : List ℕ). scattered (get_or llr b nan) es s) (e.listed b l))
       (λ i s l. ap (λ (es : List ℕ). scattered (get_or llr (k + i) nan) es s) (e.paired i l))
 
-  pub stair-bits-turns : (s s1 s2 : Pass) → s1 ≡ turns (threeTurn Total llr table) k s → s2 ≡ turns (parityTurn llr k m from) m s1
-      → s2 ≡ turns (slotTurn cs m Total llr) (k + m) s
-  unfolding threeTurn parityTurn slotTurn
+  pub stair-bits-turns : (s s1 s2 : Pass) → s1 ≡ turns (three_turn Total llr table) k s → s2 ≡ turns (parity_turn llr k m from) m s1
+      → s2 ≡ turns (slot_turn cs m Total llr) (k + m) s
+  unfolding three_turn parity_turn slot_turn
   stair-bits-turns s s1 s2 one two =
-      two ∙ ap (turns (parityTurn llr k m from) m) one
-      ∙ both-turns (slotTurn cs m Total llr) (threeTurn Total llr table) (parityTurn llr k m from) k m s
-      (λ b t l. ap (λ (es : List ℕ). bitDone Total (get_or llr b nan) es b t) (e.listed b l))
-      (λ i t l. ap (λ (es : List ℕ). bitDone Total (get_or llr (k + i) nan) es (k + i) t) (e.paired i l))
+      two ∙ ap (turns (parity_turn llr k m from) m) one
+      ∙ both-turns (slot_turn cs m Total llr) (three_turn Total llr table) (parity_turn llr k m from) k m s
+      (λ b t l. ap (λ (es : List ℕ). bit_done Total (get_or llr b nan) es b t) (e.listed b l))
+      (λ i t l. ap (λ (es : List ℕ). bit_done Total (get_or llr (k + i) nan) es (k + i) t) (e.paired i l))

@@ -8,7 +8,7 @@ use native.Mathlib.Omega.{arith}
 use lib.Dec.{leb, ltb}
 use Rattle.columns.specs.Rows.{holds, insert, sorted}
 use Rattle.lists.specs.Below.{Below}
-use Rattle.picking.specs.Picks.{Found, row, nothing, up_from, onceRound, without, leastOf, firstLeast, search, firstOutside, settled}
+use Rattle.picking.specs.Picks.{Found, row, nothing, up_from, once_round, without, least_of, first_least, search, first_outside, settled}
 
 -- one of two
 pub either : {A : Type 0} (P : A → Type 0) (b : Bool) {x y : A} → P x → P y → P (cond b x y)
@@ -43,12 +43,12 @@ module _ (P : ℕ → Type 0) where
   each-sorted (r ∷ rs) e = each-insert r (sorted rs) e.0 (each-sorted rs e.1)
 
   -- ---- the relaxed pick
-  pub outside-has : (c rs : List ℕ) (other : ℕ) → P other → Each P rs → P (firstOutside c rs other)
-  unfolding firstOutside
+  pub outside-has : (c rs : List ℕ) (other : ℕ) → P other → Each P rs → P (first_outside c rs other)
+  unfolding first_outside
   outside-has c [] other p e = p
   outside-has c (r ∷ rs) other p e = either P (holds c r) (outside-has c rs other p e.1) e.0
 
-  pub settled-has : (m : ℕ) (picked : List ℕ) (start : ℕ) (f : Found) → ((q : ℕ) → f ≡ row q → P q) → P (firstOutside picked (onceRound m start) 0)
+  pub settled-has : (m : ℕ) (picked : List ℕ) (start : ℕ) (f : Found) → ((q : ℕ) → f ≡ row q → P q) → P (first_outside picked (once_round m start) 0)
       → P (settled m picked start f).row
   unfolding settled
   settled-has m picked start (row q) p o = p q refl
@@ -61,18 +61,18 @@ module _ (P : ℕ → Type 0) where
   each-without skip (r ∷ rs) e = either (Each P) (skip r) (each-without skip rs e.1) (e.0, each-without skip rs e.1)
 
   module _ (L : ℕ → ℕ) where
-    least-has : (r : ℕ) (rs : List ℕ) → P r → Each P rs → P (leastOf L r rs)
-    unfolding leastOf
+    least-has : (r : ℕ) (rs : List ℕ) → P r → Each P rs → P (least_of L r rs)
+    unfolding least_of
     least-has r [] p e = p
     least-has r (q ∷ qs) p e = least-has (cond (ltb (L q) (L r)) q r) qs (either P (ltb (L q) (L r)) e.0 p) e.1
 
-    first-has : (rs : List ℕ) (q : ℕ) → Each P rs → firstLeast L rs ≡ row q → P q
-    unfolding firstLeast
+    first-has : (rs : List ℕ) (q : ℕ) → Each P rs → first_least L rs ≡ row q → P q
+    unfolding first_least
     first-has [] q e f =
         let z : ◌≡◌ {A = ℕ} 0 1 = cc in
         absurd (omega arith)
     first-has (r ∷ rs) q e f =
-        let same : leastOf L r rs ≡ q = cc in
+        let same : least_of L r rs ≡ q = cc in
         rw (← same) (least-has r rs e.0 e.1)
 
 -- ---- rows below m
@@ -87,34 +87,34 @@ unfolding Below
 all-each m [] a = tt
 all-each m (r ∷ rs) a = (a 0 (omega arith), all-each m rs (λ i h. a (suc i) (omega arith)))
 
-up-below : (m n a : ℕ) → a + n ≤ m → Each (λ r. r < m) (up_from a n)
+up_below : (m n a : ℕ) → a + n ≤ m → Each (λ r. r < m) (up_from a n)
 unfolding up_from
-up-below m zero a h = tt
-up-below m (suc n) a h = (omega arith, up-below m n (suc a) (omega arith))
+up_below m zero a h = tt
+up_below m (suc n) a h = (omega arith, up_below m n (suc a) (omega arith))
 
-round-below : (m start : ℕ) → start ≤ m → Each (λ r. r < m) (onceRound m start)
-round-below m start h =
-    each_append (λ r. r < m) (up_from start (m - start)) (up_from 0 start) (up-below m (m - start) start (omega arith)) (up-below m start 0 (omega arith))
+round_below : (m start : ℕ) → start ≤ m → Each (λ r. r < m) (once_round m start)
+round_below m start h =
+    each_append (λ r. r < m) (up_from start (m - start)) (up_from 0 start) (up_below m (m - start) start (omega arith)) (up_below m start 0 (omega arith))
 
-pub outside_below : (c : List ℕ) (m start : ℕ) → start < m → firstOutside c (onceRound m start) 0 < m
-outside_below c m start h = outside-has (λ r. r < m) c (onceRound m start) 0 (omega arith) (round-below m start (omega arith))
+pub outside_below : (c : List ℕ) (m start : ℕ) → start < m → first_outside c (once_round m start) 0 < m
+outside_below c m start h = outside-has (λ r. r < m) c (once_round m start) 0 (omega arith) (round_below m start (omega arith))
 
 -- ---- what a search yields
 kept_free : (S : ℕ → Bool) (b : Bool) (r : ℕ) (rs : List ℕ) → S r ≡ b → Each (λ q. S q ≡ false) rs → Each (λ q. S q ≡ false) (cond b rs (r ∷ rs))
 kept_free S true r rs e f = f
 kept_free S false r rs e f = (e, f)
 
-without-free : (S : ℕ → Bool) (rs : List ℕ) → Each (λ q. S q ≡ false) (without S rs)
+without_free : (S : ℕ → Bool) (rs : List ℕ) → Each (λ q. S q ≡ false) (without S rs)
 unfolding without
-without-free S [] = tt
-without-free S (r ∷ rs) = kept_free S (S r) r (without S rs) refl (without-free S rs)
+without_free S [] = tt
+without_free S (r ∷ rs) = kept_free S (S r) r (without S rs) refl (without_free S rs)
 
 module _ (m : ℕ) (L : ℕ → ℕ) (S : ℕ → Bool) (start q : ℕ) where
   -- a row that is not skipped
   pub search-free : search m L S start ≡ row q → S q ≡ false
   unfolding search
-  search-free e = first-has (λ r. S r ≡ false) L (without S (onceRound m start)) q (without-free S (onceRound m start)) e
+  search-free e = first-has (λ r. S r ≡ false) L (without S (once_round m start)) q (without_free S (once_round m start)) e
 
   pub search-below : start ≤ m → search m L S start ≡ row q → q < m
   unfolding search
-  search-below h e = first-has (λ r. r < m) L (without S (onceRound m start)) q (each-without (λ r. r < m) S (onceRound m start) (round-below m start h)) e
+  search-below h e = first-has (λ r. r < m) L (without S (once_round m start)) q (each-without (λ r. r < m) S (once_round m start) (round_below m start h)) e

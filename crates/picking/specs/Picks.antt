@@ -14,30 +14,30 @@ up_from a zero = []
 up_from a (suc n) = a ∷ up_from (suc a) n
 
 -- "goes once round the rows", of which there are m
-abbrev pub onceRound : ℕ → ℕ → List ℕ
-onceRound m start = up_from start (m - start) ++ up_from 0 start
+abbrev pub once_round : ℕ → ℕ → List ℕ
+once_round m start = up_from start (m - start) ++ up_from 0 start
 
 unfoldable pub without : (ℕ → Bool) → List ℕ → List ℕ
 without skip [] = []
 without skip (r ∷ rs) = cond (skip r) (without skip rs) (r ∷ without skip rs)
 
 -- r, or the first of the rows that is less loaded than each before it
-unfoldable pub leastOf : (ℕ → ℕ) → ℕ → List ℕ → ℕ
-leastOf loads r [] = r
-leastOf loads r (q ∷ qs) = leastOf loads (cond (ltb (loads q) (loads r)) q r) qs
+unfoldable pub least_of : (ℕ → ℕ) → ℕ → List ℕ → ℕ
+least_of loads r [] = r
+least_of loads r (q ∷ qs) = least_of loads (cond (ltb (loads q) (loads r)) q r) qs
 
 -- "the least loaded of the rest, the first met among equals"
-unfoldable pub firstLeast : (ℕ → ℕ) → List ℕ → Found
-firstLeast loads [] = nothing
-firstLeast loads (r ∷ rs) = row (leastOf loads r rs)
+unfoldable pub first_least : (ℕ → ℕ) → List ℕ → Found
+first_least loads [] = nothing
+first_least loads (r ∷ rs) = row (least_of loads r rs)
 
 unfoldable pub search : ℕ → (ℕ → ℕ) → (ℕ → Bool) → ℕ → Found
-search m loads skip start = firstLeast loads (without skip (onceRound m start))
+search m loads skip start = first_least loads (without skip (once_round m start))
 
 -- "the first row from the start not yet in the column", or the row other where there is none
-unfoldable pub firstOutside : List ℕ → List ℕ → ℕ → ℕ
-firstOutside picked [] other = other
-firstOutside picked (r ∷ rs) other = cond (holds picked r) (firstOutside picked rs other) r
+unfoldable pub first_outside : List ℕ → List ℕ → ℕ → ℕ
+first_outside picked [] other = other
+first_outside picked (r ∷ rs) other = cond (holds picked r) (first_outside picked rs other) r
 
 pub record Choice : Type 0 where
   pub row : ℕ
@@ -47,4 +47,4 @@ pub record Choice : Type 0 where
 -- "nothing leads to the relaxed pick"
 unfoldable pub settled : ℕ → List ℕ → ℕ → Found → Choice
 settled m picked start (row r) = record { row = r; relaxed = 0 }
-settled m picked start nothing = record { row = firstOutside picked (onceRound m start) 0; relaxed = 1 }
+settled m picked start nothing = record { row = first_outside picked (once_round m start) 0; relaxed = 1 }

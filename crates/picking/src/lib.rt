@@ -1,8 +1,8 @@
 // A pick: the search once round the rows, and the relaxed pick where it yields nothing.
 ghost use Rattle.std.specs.Prelude.{◌≡◌, true, ◌-◌, ◌%◌, ◌≤◌, ◌<◌, length};
-ghost use Rattle.columns.specs.Tables.{flagAt};
-ghost use Rattle.picking.specs.Picks.{up_from, onceRound, search, firstOutside, settled};
-ghost use Rattle.picking.specs.Searches.{foundOf, metRow, metRows, Unbeaten, FoundBelow, loadAt, choice_of};
+ghost use Rattle.columns.specs.Tables.{flag_at};
+ghost use Rattle.picking.specs.Picks.{up_from, once_round, search, first_outside, settled};
+ghost use Rattle.picking.specs.Searches.{found_of, met_row, met_rows, Unbeaten, FoundBelow, load_at, choice_of};
 
 // What a search yields.
 #[derive(Drop)]
@@ -15,9 +15,9 @@ pub enum Pick {
 fn better(loads: &[u16], marks: &[u8], found: Pick, r: usize) -> Pick
     requires r_in_bounds { r < length loads.now }
     requires marks_len { length marks.now ≡ length loads.now }
-    requires found_below { FoundBelow (length loads.now) (foundOf found) }
-    ensures result_value { foundOf result ≡ metRow (loadAt loads.now) (flagAt marks.now r) r (foundOf found) }
-    ensures found_below_2 { FoundBelow (length loads.now) (foundOf result) }
+    requires found_below { FoundBelow (length loads.now) (found_of found) }
+    ensures result_value { found_of result ≡ met_row (load_at loads.now) (flag_at marks.now r) r (found_of found) }
+    ensures found_below_2 { FoundBelow (length loads.now) (found_of result) }
 {
     if marks[r] != 0 {
         return found;
@@ -33,8 +33,8 @@ fn better(loads: &[u16], marks: &[u8], found: Pick, r: usize) -> Pick
 
 // No row is less loaded than an unloaded one.
 fn unbeaten(loads: &[u16], found: Pick) -> bool
-    requires { FoundBelow (length loads.now) (foundOf found) }
-    ensures { result ≡ true → Unbeaten loads.now (foundOf found) }
+    requires { FoundBelow (length loads.now) (found_of found) }
+    ensures { result ≡ true → Unbeaten loads.now (found_of found) }
 {
     let Pick::Row(q) = found else {
         return false;
@@ -46,9 +46,9 @@ fn unbeaten(loads: &[u16], found: Pick) -> bool
 fn search_part(loads: &[u16], marks: &[u8], from: usize, to: usize, before: Pick) -> Pick
     requires to_in_bounds { to ≤ length loads.now }
     requires marks_len { length marks.now ≡ length loads.now }
-    requires found_below { FoundBelow (length loads.now) (foundOf before) }
-    ensures result_value { foundOf result ≡ metRows (loadAt loads.now) (flagAt marks.now) (up_from from (to - from)) (foundOf before) }
-    ensures found_below_2 { FoundBelow (length loads.now) (foundOf result) }
+    requires found_below { FoundBelow (length loads.now) (found_of before) }
+    ensures result_value { found_of result ≡ met_rows (load_at loads.now) (flag_at marks.now) (up_from from (to - from)) (found_of before) }
+    ensures found_below_2 { FoundBelow (length loads.now) (found_of result) }
 {
     let mut found = before;
     let mut r = from;
@@ -66,8 +66,8 @@ fn search_part(loads: &[u16], marks: &[u8], from: usize, to: usize, before: Pick
 fn search(loads: &[u16], marks: &[u8], start: usize) -> Pick
     requires marks_len { length marks.now ≡ length loads.now }
     requires start_in_bounds { start < length loads.now }
-    ensures result_value { foundOf result ≡ search (length loads.now) (loadAt loads.now) (flagAt marks.now) start }
-    ensures found_below { FoundBelow (length loads.now) (foundOf result) }
+    ensures result_value { found_of result ≡ search (length loads.now) (load_at loads.now) (flag_at marks.now) start }
+    ensures found_below { FoundBelow (length loads.now) (found_of result) }
 {
     let first = search_part(loads, marks, start, loads.len(), Pick::Nothing);
     search_part(loads, marks, 0, start, first)
@@ -75,7 +75,7 @@ fn search(loads: &[u16], marks: &[u8], start: usize) -> Pick
 
 // The first row from one to another that the column does not hold, or else the row other.
 fn first_outside(column: &[u16], from: usize, to: usize, other: usize) -> usize
-    ensures { result ≡ firstOutside column.now (up_from from (to - from)) other }
+    ensures { result ≡ first_outside column.now (up_from from (to - from)) other }
 {
     let mut r = from;
     while r < to {
@@ -89,7 +89,7 @@ fn first_outside(column: &[u16], from: usize, to: usize, other: usize) -> usize
 
 // The relaxed pick.
 fn relaxed_row(column: &[u16], m: usize, start: usize) -> usize
-    ensures { result ≡ firstOutside column.now (onceRound m start) 0 }
+    ensures { result ≡ first_outside column.now (once_round m start) 0 }
 {
     let wrapped = first_outside(column, 0, start, 0);
     first_outside(column, start, m, wrapped)
@@ -107,7 +107,7 @@ pub fn pick_row(loads: &[u16], marks: &[u8], column: &[u16], drawn: u64) -> Take
     requires marks_len { length marks.now ≡ length loads.now }
     requires loads_nonzero { 0 < length loads.now }
     ensures result_value { choice_of result ≡ settled (length loads.now) column.now (drawn % length loads.now)
-        (search (length loads.now) (loadAt loads.now) (flagAt marks.now) (drawn % length loads.now)) }
+        (search (length loads.now) (load_at loads.now) (flag_at marks.now) (drawn % length loads.now)) }
     ensures row_in_bounds { (result.row < length loads.now) × (result.relaxed ≤ 1) }
 {
     let m = loads.len();

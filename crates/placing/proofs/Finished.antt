@@ -8,7 +8,7 @@ use lib.Dec.{leb}
 use lib.ListN.{length, take, drop, replicate, length-take, length-drop, length-replicate}
 use lib.Seq.{take_at, drop_at, take-add, length-take-le}
 use Rattle.columns.specs.Rows.{insert, sorted}
-use Rattle.columns.specs.Tables.{columnAt, columnsIn, Loaded, Room}
+use Rattle.columns.specs.Tables.{column_at, columns_in, Loaded, Room}
 use Rattle.lists.specs.Below.{Below}
 use Rattle.columns.proofs.Columns.{times-le}
 use Rattle.picking.proofs.Rows.{either, Each, each_append, each_left, each_right, each-sorted, each_all, all-each}
@@ -28,8 +28,8 @@ sorted-length [] = refl
 sorted-length (r ∷ rs) = insert-length r (sorted rs) ∙ ap suc (sorted-length rs)
 
 -- ---- the loads leave room
-load-le : (rows : List ℕ) (n r : ℕ) → load (columnsIn rows n) r ≤ 3 * n
-unfolding load columnsIn columnAt
+load-le : (rows : List ℕ) (n r : ℕ) → load (columns_in rows n) r ≤ 3 * n
+unfolding load columns_in column_at
 load-le rows zero r = omega arith
 load-le rows (suc n) r =
     let c = take 3 (drop (3 * n) rows) in
@@ -46,13 +46,13 @@ module _ {m n : ℕ} {rows loads marks : List ℕ} (b : Begun m n 3 rows loads m
   abbrev whole : List ℕ
   whole = put_mid (3 * n) (3 * n + 3 - 3 * n) rows v
 
-  v-is : v ≡ sorted (columnAt rows n)
-  unfolding columnAt
+  v-is : v ≡ sorted (column_at rows n)
+  unfolding column_at
   v-is = rw three at same
 
   v-size : length v ≡ 3
-  unfolding columnAt
-  v-size = ap length v-is ∙ sorted-length (columnAt rows n) ∙ length-take-le 3 (drop (3 * n) rows) (simp length-drop (omega (arith, b.room)))
+  unfolding column_at
+  v-size = ap length v-is ∙ sorted-length (column_at rows n) ∙ length-take-le 3 (drop (3 * n) rows) (simp length-drop (omega (arith, b.room)))
 
   front : length (take (3 * n) rows) ≡ 3 * n
   front = length-take-le (3 * n) rows (omega (arith, b.room))
@@ -66,8 +66,8 @@ module _ {m n : ℕ} {rows loads marks : List ℕ} (b : Begun m n 3 rows loads m
   whole-earlier : take (3 * n) whole ≡ take (3 * n) rows
   whole-earlier = take_at (take (3 * n) rows) _ (3 * n) front
 
-  whole-columns : columnsIn whole (suc n) ≡ v ∷ columnsIn rows n
-  unfolding columnsIn columnAt
+  whole-columns : columns_in whole (suc n) ≡ v ∷ columns_in rows n
+  unfolding columns_in column_at
   whole-columns = rw whole-cut (ap (λ (cs : List (List ℕ)). v ∷ cs) (columns-same n whole rows whole-earlier))
 
   rows-each : Each (λ r. r < m) (take (3 * n) rows ++ take 3 (drop (3 * n) rows))
@@ -87,19 +87,19 @@ module _ {m n : ℕ} {rows loads marks : List ℕ} (b : Begun m n 3 rows loads m
   room r h = omega (arith, b.ready.right r h, load-le rows n r, v-size, b.few)
 
   pub finished-column : {loads' : List ℕ} → Loaded v loads loads' → length loads' ≡ length loads
-      → Finished m n (columnAt rows n) rows whole loads' (replicate (length marks) 0)
+      → Finished m n (column_at rows n) rows whole loads' (replicate (length marks) 0)
   unfolding Loads Loaded load
   finished-column count size = record {
-    columns = whole-columns ∙ ap (λ (c : List ℕ). c ∷ columnsIn rows n) v-is;
+    columns = whole-columns ∙ ap (λ (c : List ℕ). c ∷ columns_in rows n) v-is;
     ready = record {
       some = b.ready.some;
       narrow = b.ready.narrow;
-      rowsAre = size ∙ b.ready.rowsAre;
-      flagsAre = length-replicate (length marks) 0 ∙ b.ready.flagsAre;
+      rows_are = size ∙ b.ready.rows_are;
+      flags_are = length-replicate (length marks) 0 ∙ b.ready.flags_are;
       right = λ r h. rw whole-columns (count r (omega arith) ∙ rw (b.ready.right r (omega arith)));
     };
     below =
         let e : 3 * suc n ≡ 3 * n + 3 = omega arith in
         rw (e, take-add (3 * n) 3 whole, whole-earlier, whole-cut) (each_all m _ whole_each);
-    clear = ap (λ (k : ℕ). replicate k 0) b.ready.flagsAre;
+    clear = ap (λ (k : ℕ). replicate k 0) b.ready.flags_are;
   }

@@ -11,41 +11,41 @@ use lib.Dec.{ltb, eqb}
 use lib.ListN.{length, set, take, drop, length-set, length-drop}
 use lib.Seq.{take-set-le, take-take, take-nil, drop-set-add, take-suc-set}
 use Rattle.columns.specs.Rows.{together}
-use Rattle.columns.specs.Tables.{flagAt, columnAt, columnsIn, AllMarked}
+use Rattle.columns.specs.Tables.{flag_at, column_at, columns_in, AllMarked}
 use Rattle.lists.specs.Below.{Below}
 use Rattle.lists.proofs.Below.{below-within, below_set}
-use Rattle.picking.specs.Picks.{Found, row, nothing, Choice, up_from, search, leastOf, settled}
-use Rattle.picking.specs.Searches.{metRow, metRows, FoundBelow, loadAt}
+use Rattle.picking.specs.Picks.{Found, row, nothing, Choice, up_from, search, least_of, settled}
+use Rattle.picking.specs.Searches.{met_row, met_rows, FoundBelow, load_at}
 use Rattle.picking.proofs.Searches.{met-round}
 use Rattle.picking.proofs.Rows.{either}
 use Rattle.placing.specs.OnePick.{pick, skipped, load}
 use Rattle.placing.specs.Tables.{Flags, Loads, Ready, Begun, Placed}
 
 module _ (m : ℕ) (L L' : ℕ → ℕ) (S S' : ℕ → Bool) (loads : (r : ℕ) → r < m → L r ≡ L' r) (flags : (r : ℕ) → r < m → S r ≡ S' r) where
-  met-same : (b : Bool) (r : ℕ) (f : Found) → r < m → FoundBelow m f → metRow L b r f ≡ metRow L' b r f
-  unfolding metRow leastOf FoundBelow
+  met-same : (b : Bool) (r : ℕ) (f : Found) → r < m → FoundBelow m f → met_row L b r f ≡ met_row L' b r f
+  unfolding met_row least_of FoundBelow
   met-same true r f h low = refl
   met-same false r nothing h low = refl
   met-same false r (row q) h low = rw (loads r h, loads q low)
 
-  met-below : (b : Bool) (r : ℕ) (f : Found) → r < m → FoundBelow m f → FoundBelow m (metRow L b r f)
-  unfolding metRow leastOf FoundBelow
+  met-below : (b : Bool) (r : ℕ) (f : Found) → r < m → FoundBelow m f → FoundBelow m (met_row L b r f)
+  unfolding met_row least_of FoundBelow
   met-below true r f h low = low
   met-below false r nothing h low = h
   met-below false r (row q) h low = either (λ (x : ℕ). x < m) (ltb (L r) (L q)) h low
 
-  mets-same : (n a : ℕ) (f : Found) → a + n ≤ m → FoundBelow m f → metRows L S (up_from a n) f ≡ metRows L' S' (up_from a n) f
-  unfolding metRows up_from
+  mets-same : (n a : ℕ) (f : Found) → a + n ≤ m → FoundBelow m f → met_rows L S (up_from a n) f ≡ met_rows L' S' (up_from a n) f
+  unfolding met_rows up_from
   mets-same zero a f h low = refl
   mets-same (suc n) a f h low =
       let one = met-same (S a) a f (omega arith) low in
-      let rest = mets-same n (suc a) (metRow L (S a) a f) (omega arith) (met-below (S a) a f (omega arith) low) in
+      let rest = mets-same n (suc a) (met_row L (S a) a f) (omega arith) (met-below (S a) a f (omega arith) low) in
       rest ∙ rw (one, flags a (omega arith))
 
-  mets-below : (n a : ℕ) (f : Found) → a + n ≤ m → FoundBelow m f → FoundBelow m (metRows L S (up_from a n) f)
-  unfolding metRows up_from
+  mets-below : (n a : ℕ) (f : Found) → a + n ≤ m → FoundBelow m f → FoundBelow m (met_rows L S (up_from a n) f)
+  unfolding met_rows up_from
   mets-below zero a f h low = low
-  mets-below (suc n) a f h low = mets-below n (suc a) (metRow L (S a) a f) (omega arith) (met-below (S a) a f (omega arith) low)
+  mets-below (suc n) a f h low = mets-below n (suc a) (met_row L (S a) a f) (omega arith) (met-below (S a) a f (omega arith) low)
 
   pub search-same : (start : ℕ) → start ≤ m → search m L S start ≡ search m L' S' start
   unfolding FoundBelow
@@ -56,42 +56,42 @@ module _ (m : ℕ) (L L' : ℕ → ℕ) (S S' : ℕ → Bool) (loads : (r : ℕ)
       ∙ rw first (met-round L' S' m start)
 
 -- ---- one pick
-part-is : (n t : ℕ) (rows : List ℕ) → take (3 * n + t - 3 * n) (drop (3 * n) rows) ≡ take t (drop (3 * n) rows)
-part-is n t rows =
+part_is : (n t : ℕ) (rows : List ℕ) → take (3 * n + t - 3 * n) (drop (3 * n) rows) ≡ take t (drop (3 * n) rows)
+part_is n t rows =
     let e : 3 * n + t - 3 * n ≡ t = omega arith in
     rw e
 
 -- the pick from the loads and the flags, for a column of which these rows stand
-abbrev looked-up : List ℕ → List ℕ → List ℕ → ℕ → Choice
-looked-up loads marks picked drawn =
-    settled (length loads) picked (drawn % length loads) (search (length loads) (loadAt loads) (flagAt marks) (drawn % length loads))
+abbrev looked_up : List ℕ → List ℕ → List ℕ → ℕ → Choice
+looked_up loads marks picked drawn =
+    settled (length loads) picked (drawn % length loads) (search (length loads) (load_at loads) (flag_at marks) (drawn % length loads))
 
 pick_is : {m : ℕ} {cs : List (List ℕ)} {loads marks : List ℕ} (n t drawn : ℕ) (rows : List ℕ) {c : Choice} → Ready m cs loads marks
-    → Flags cs (take t (drop (3 * n) rows)) marks → c ≡ looked-up loads marks (take (3 * n + t - 3 * n) (drop (3 * n) rows)) drawn
+    → Flags cs (take t (drop (3 * n) rows)) marks → c ≡ looked_up loads marks (take (3 * n + t - 3 * n) (drop (3 * n) rows)) drawn
     → c ≡ pick m cs (take t (drop (3 * n) rows)) drawn
-unfolding pick Flags Loads loadAt
+unfolding pick Flags Loads load_at
 pick_is {m} {cs} {loads} {marks} n t drawn rows ready flags c =
     let low = mod-lt drawn ready.some in
     let same =
-    search-same m (loadAt loads) (load cs) (flagAt marks) (skipped cs (take t (drop (3 * n) rows))) (λ r h. ready.right r (omega (arith, ready.rowsAre)))
-    (λ r h. flags r (omega (arith, ready.flagsAre))) (drawn % m) (omega arith) in
-    c ∙ rw (ready.rowsAre, part-is n t rows, same)
+    search-same m (load_at loads) (load cs) (flag_at marks) (skipped cs (take t (drop (3 * n) rows))) (λ r h. ready.right r (omega (arith, ready.rows_are)))
+    (λ r h. flags r (omega (arith, ready.flags_are))) (drawn % m) (omega arith) in
+    c ∙ rw (ready.rows_are, part_is n t rows, same)
 
-skipped-append : (cs : List (List ℕ)) (xs ys : List ℕ) (r : ℕ) → skipped cs (xs ++ ys) r ≡ (skipped cs xs r || skipped cs ys r)
+skipped_append : (cs : List (List ℕ)) (xs ys : List ℕ) (r : ℕ) → skipped cs (xs ++ ys) r ≡ (skipped cs xs r || skipped cs ys r)
 unfolding skipped
-skipped-append cs [] ys r = refl
-skipped-append cs (x ∷ xs) ys r = rw (skipped-append cs xs ys r) (sym (or_assoc (eqb x r || together cs x r) (skipped cs xs r) (skipped cs ys r)))
+skipped_append cs [] ys r = refl
+skipped_append cs (x ∷ xs) ys r = rw (skipped_append cs xs ys r) (sym (or_assoc (eqb x r || together cs x r) (skipped cs xs r) (skipped cs ys r)))
 
-one-skipped : (cs : List (List ℕ)) (q r : ℕ) → skipped cs (q ∷ []) r ≡ (eqb q r || together cs q r)
+one_skipped : (cs : List (List ℕ)) (q r : ℕ) → skipped cs (q ∷ []) r ≡ (eqb q r || together cs q r)
 unfolding skipped
-one-skipped cs q r = or-false (eqb q r || together cs q r)
+one_skipped cs q r = or-false (eqb q r || together cs q r)
 
-flags-more : (cs : List (List ℕ)) (picked : List ℕ) (q : ℕ) (u v : List ℕ) → length v ≡ length u → Flags cs picked u → AllMarked cs q u v
+flags_more : (cs : List (List ℕ)) (picked : List ℕ) (q : ℕ) (u v : List ℕ) → length v ≡ length u → Flags cs picked u → AllMarked cs q u v
     → Flags cs (picked ++ (q ∷ [])) v
 unfolding Flags AllMarked
-flags-more cs picked q u v size f m r h =
+flags_more cs picked q u v size f m r h =
     m r (omega arith)
-    ∙ rw (f r (omega arith), skipped-append cs picked (q ∷ []) r, one-skipped cs q r) (or_comm (eqb q r || together cs q r) (skipped cs picked r))
+    ∙ rw (f r (omega arith), skipped_append cs picked (q ∷ []) r, one_skipped cs q r) (or_comm (eqb q r || together cs q r) (skipped cs picked r))
 
 -- ---- the picks of a column
 drop-take : (a b : ℕ) (l : List ℕ) → drop a (take (a + b) l) ≡ take b (drop a l)
@@ -99,8 +99,8 @@ drop-take zero b l = rw zero-add
 drop-take (suc a) b [] = rw suc-add (sym (take-nil b))
 drop-take (suc a) b (x ∷ l) = rw suc-add (drop-take a b l)
 
-pub columns-same : (n : ℕ) (u v : List ℕ) → take (3 * n) u ≡ take (3 * n) v → columnsIn u n ≡ columnsIn v n
-unfolding columnsIn columnAt
+pub columns-same : (n : ℕ) (u v : List ℕ) → take (3 * n) u ≡ take (3 * n) v → columns_in u n ≡ columns_in v n
+unfolding columns_in column_at
 columns-same zero u v e = refl
 columns-same (suc n) u v e =
     let s : 3 * suc n ≡ 3 * n + 3 = omega arith in
@@ -110,23 +110,23 @@ columns-same (suc n) u v e =
     rw (one, columns-same n u v less)
 
 -- the rows of the columns before
-pub before-below : {m n t : ℕ} {rows loads marks : List ℕ} → t < 3 → Begun m n t rows loads marks → Below m (take (3 * n) rows)
-before-below {m} {n} {t} {rows} early b = below-within m (3 * n + t) 0 (3 * n) rows (omega arith) (omega (arith, b.room)) b.below
+pub before_below : {m n t : ℕ} {rows loads marks : List ℕ} → t < 3 → Begun m n t rows loads marks → Below m (take (3 * n) rows)
+before_below {m} {n} {t} {rows} early b = below-within m (3 * n + t) 0 (3 * n) rows (omega arith) (omega (arith, b.room)) b.below
 
 -- the table after a pick of column n: the columns before stand as they did, and the column has one row more
 module _ (n t r : ℕ) (rows : List ℕ) (fits : 3 * n + t < length rows) where
   pub set-earlier : take (3 * n) (set rows (3 * n + t) r) ≡ take (3 * n) rows
   set-earlier = take-set-le (3 * n) rows (3 * n + t) r (omega arith)
 
-  set-columns : columnsIn (set rows (3 * n + t) r) n ≡ columnsIn rows n
+  set-columns : columns_in (set rows (3 * n + t) r) n ≡ columns_in rows n
   set-columns = columns-same n (set rows (3 * n + t) r) rows set-earlier
 
   pub set-picked : take (t + 1) (drop (3 * n) (set rows (3 * n + t) r)) ≡ take t (drop (3 * n) rows) ++ (r ∷ [])
   set-picked = rw (add-one, drop-set-add (3 * n) rows t r) (take-suc-set (drop (3 * n) rows) t r (simp length-drop (omega arith)))
 
 pub placed : {m : ℕ} (n t drawn : ℕ) (rows loads marks marks' : List ℕ) (c : Choice) → t < 3 → Begun m n t rows loads marks
-    → c ≡ looked-up loads marks (take (3 * n + t - 3 * n) (drop (3 * n) rows)) drawn
-    → c.row < m → c.relaxed ≤ 1 → length marks' ≡ length marks → AllMarked (columnsIn rows n) c.row marks marks'
+    → c ≡ looked_up loads marks (take (3 * n + t - 3 * n) (drop (3 * n) rows)) drawn
+    → c.row < m → c.relaxed ≤ 1 → length marks' ≡ length marks → AllMarked (columns_in rows n) c.row marks marks'
     → Placed m n t drawn rows loads c.relaxed (set rows (3 * n + t) c.row) marks'
 placed {m} n t drawn rows loads marks marks' c early b e low most size all =
     let same = pick_is n t drawn rows b.ready b.flags e in
@@ -140,8 +140,8 @@ placed {m} n t drawn rows loads marks marks' c early b e low most size all =
         ready = record {
           some = b.ready.some;
           narrow = b.ready.narrow;
-          rowsAre = b.ready.rowsAre;
-          flagsAre = size ∙ b.ready.flagsAre;
+          rows_are = b.ready.rows_are;
+          flags_are = size ∙ b.ready.flags_are;
           right = rw cs b.ready.right;
         };
         room = simp length-set b.room;
@@ -149,6 +149,6 @@ placed {m} n t drawn rows loads marks marks' c early b e low most size all =
         below =
             let k : 3 * n + (t + 1) ≡ 3 * n + t + 1 = omega arith in
             rw k (below_set m (3 * n + t) c.row rows fits low b.below);
-        flags = rw (cs, set-picked n t c.row rows fits) (flags-more _ _ c.row marks marks' size b.flags all);
+        flags = rw (cs, set-picked n t c.row rows fits) (flags_more _ _ c.row marks marks' size b.flags all);
       };
     }

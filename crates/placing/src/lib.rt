@@ -1,6 +1,6 @@
 // A pick stored and marked, and a column of three picks finished, in the tables that the construction keeps.
 ghost use Rattle.std.specs.Prelude.{◌<◌, length};
-ghost use Rattle.columns.specs.Tables.{columnAt};
+ghost use Rattle.columns.specs.Tables.{column_at};
 ghost use Rattle.placing.specs.Tables.{Begun, Placed, Finished};
 
 // Pick t of column n at a drawn number: picked, stored and marked. 1 where it was relaxed, else 0.
@@ -28,7 +28,7 @@ pub fn place(
 // Column n, of which three rows stand in the table: sorted and counted, and its flags cleared for the next.
 pub fn finish_column(rows: &mut [u16], n: usize, loads: &mut [u16], marks: &mut [u8])
     requires { Begun (length loads.old) n 3 rows.old loads.old marks.old }
-    ensures { Finished (length loads.old) n (columnAt rows.old n) rows.old
+    ensures { Finished (length loads.old) n (column_at rows.old n) rows.old
         rows.new loads.new marks.new }
 {
     let at = 3 * n;

@@ -4,16 +4,16 @@ use Rattle.refusal.specs.Outcome.{Outcome, accepted, refused, Condition, ◌when
 use Rattle.refusal.specs.Numbers.{number_of}
 use Rattle.rounds.specs.Rounds.{chosen}
 use Rattle.work_area.specs.Area.{cleared}
-use Rattle.batch.specs.Codes.{sizeN, decodeOf}
-use Rattle.batch.specs.Calls.{ruleNotOfCode}
+use Rattle.batch.specs.Codes.{size_n, decode_of}
+use Rattle.batch.specs.Calls.{rule_not_of_code}
 use Rattle.first_reason.specs.declared.Reason.{Reason}
 use Rattle.reason.specs.declared.Explained.{Explained}
 use Rattle.reason.specs.declared.Explained.TheVariants.{Because, Refused}
-use Rattle.reason.specs.Under.{reasonUnder}
+use Rattle.reason.specs.Under.{reason_under}
 
-abbrev pub explainedOf : Explained → Outcome Reason
-explainedOf (Because r) = accepted r
-explainedOf (Refused r) = refused (number_of r)
+abbrev pub explained_of : Explained → Outcome Reason
+explained_of (Because r) = accepted r
+explained_of (Refused r) = refused (number_of r)
 
 -- a frame as it is handed over, and the memory lent: N places for the word, and the work area
 pub record Asked : Type 0 where
@@ -41,14 +41,14 @@ unfoldable pub refusals : Asked → List Condition
 refusals a =
     (1 when ltb 3 a.code)
     ∷ (2 when ltb 4 a.rule)
-    ∷ (3 when ruleNotOfCode a.code a.rule)
-    ∷ (4 when not (eqb (length a.values) (sizeN a.code)))
-    ∷ (8 when not (eqb (length a.word) (sizeN a.code)))
+    ∷ (3 when rule_not_of_code a.code a.rule)
+    ∷ (4 when not (eqb (length a.values) (size_n a.code)))
+    ∷ (8 when not (eqb (length a.word) (size_n a.code)))
     ∷ (9 when ltb (length a.work) 3070)
     ∷ []
 
 -- what the call answers and leaves: the reason, the chosen word's N bits, and the work area cleared; "lent memory is unchanged" where it is refused
 pub record Answered (a : Asked) (answer : Outcome Reason) (word : List ℕ) (work : List Float) : Type 0 where
-  pub says : answer ≡ judged (refusals a) (reasonUnder a.code a.rule a.scale a.values a.limit)
-  pub itsWord : word ≡ kept (refusals a) a.word (chosen (decodeOf a.code a.rule a.scale a.values) a.limit)
-  pub itsWork : work ≡ kept (refusals a) a.work (cleared a.work)
+  pub says : answer ≡ judged (refusals a) (reason_under a.code a.rule a.scale a.values a.limit)
+  pub its_word : word ≡ kept (refusals a) a.word (chosen (decode_of a.code a.rule a.scale a.values) a.limit)
+  pub its_work : work ≡ kept (refusals a) a.work (cleared a.work)

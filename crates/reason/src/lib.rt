@@ -2,9 +2,9 @@
 ghost use Rattle.std.specs.Prelude.{◌≡◌, ◌<◌, ◌≤◌, length};
 ghost use Rattle.work_area.specs.Area.{cleared};
 ghost use Rattle.rounds.specs.Rounds.{chosen};
-ghost use Rattle.batch.specs.Codes.{sizeN, decodeOf};
-ghost use Rattle.reason.specs.Under.{reasonUnder};
-ghost use Rattle.reason.specs.Calls.{asked, explainedOf, Answered};
+ghost use Rattle.batch.specs.Codes.{size_n, decode_of};
+ghost use Rattle.reason.specs.Under.{reason_under};
+ghost use Rattle.reason.specs.Calls.{asked, explained_of, Answered};
 
 use first_reason::Reason;
 use refusal::Refusal;
@@ -28,11 +28,11 @@ pub fn find_reason(
     work: &mut [f32],
 ) -> Reason
     requires code_bound { code < 4 }
-    requires values_len { length values.now ≡ sizeN code }
-    requires word_len { length word.old ≡ sizeN code }
+    requires values_len { length values.now ≡ size_n code }
+    requires word_len { length word.old ≡ size_n code }
     requires in_bounds { 3070 ≤ length work.old }
-    ensures value { result ≡ reasonUnder code rule scale values.now limit }
-    ensures word_after { word.new ≡ chosen (decodeOf code rule scale values.now) limit }
+    ensures value { result ≡ reason_under code rule scale values.now limit }
+    ensures word_after { word.new ≡ chosen (decode_of code rule scale values.now) limit }
     ensures work_after { work.new ≡ cleared work.old }
 {
     let told = one_frame::decode_frame(code, rule, scale, limit, values, word, work);
@@ -52,7 +52,7 @@ pub fn frame_reason(
     work: &mut [f32],
 ) -> Explained
     ensures { Answered (asked code rule scale limit values.now word.old work.old)
-        (explainedOf result) word.new work.new }
+        (explained_of result) word.new work.new }
 {
     if code > 3 {
         return Explained::Refused(Refusal::UnknownCode);

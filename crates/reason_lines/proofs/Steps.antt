@@ -10,10 +10,10 @@ use lib.Seq.{drop-cons, drop-length}
 use Rattle.tanner.specs.Checks.{Word}
 use Rattle.tanner.specs.Flat.{rows_from, rows_of}
 use Rattle.tanner.proofs.Steps.{rows_more}
-use Rattle.reason_lines.specs.Lines.{pairText, entry, entries}
+use Rattle.reason_lines.specs.Lines.{pair_text, entry, entries}
 
 module _ (ps : List ℕ) (word : Word) (i : ℕ) where
-  pub entries-more : i < length ps → entries (drop i ps) word ≡ pairText (get_or ps i 0) (get_or word (get_or ps i 0) 0) ++ entries (drop (i + 1) ps) word
+  pub entries-more : i < length ps → entries (drop i ps) word ≡ pair_text (get_or ps i 0) (get_or word (get_or ps i 0) 0) ++ entries (drop (i + 1) ps) word
   unfolding entries entry
   entries-more h = rw (add-one i, drop-cons ps i 0 h)
 

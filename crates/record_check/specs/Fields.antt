@@ -7,8 +7,8 @@ use Rattle.record_check.specs.declared.Pair.{Pair}
 abbrev pub pair_of : Pair → named.Pair
 pair_of p = named.pair p.offset p.length
 
-abbrev pub pairsOf : List Pair → List named.Pair
-pairsOf ps = map pair_of ps
+abbrev pub pairs_of : List Pair → List named.Pair
+pairs_of ps = map pair_of ps
 
 -- a call that is turned down
 abbrev pub is_refused : Outcome Unit → Bool

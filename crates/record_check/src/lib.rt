@@ -1,10 +1,10 @@
 // A lent list of pair records, each an offset and a length: what a record is, and the check of a batch over such a list, which reads them where they lie.
 ghost use Rattle.std.specs.Prelude.{◌≡◌};
 ghost use Rattle.refusal.specs.Outcome.{judged};
-ghost use Rattle.refusal.specs.Answers.{statusOf};
-ghost use Rattle.batch_refusals.specs.Refusals.{refusalsOf};
-ghost use Rattle.batch_refusals.specs.Steps.{seenOf, nextSeen};
-ghost use Rattle.record_check.specs.Fields.{pair_of, pairsOf, is_refused};
+ghost use Rattle.refusal.specs.Answers.{status_of};
+ghost use Rattle.batch_refusals.specs.Refusals.{refusals_of};
+ghost use Rattle.batch_refusals.specs.Steps.{seen_of, next_seen};
+ghost use Rattle.record_check.specs.Fields.{pair_of, pairs_of, is_refused};
 
 use batch_refusals::{Room, Seen};
 use refusal::Status;
@@ -19,7 +19,7 @@ pub struct Pair {
 
 // Whether a call is turned down.
 pub fn turned_down(status: Status) -> bool
-    ensures { result ≡ is_refused (statusOf status) }
+    ensures { result ≡ is_refused (status_of status) }
 {
     if let Status::Refused(_) = status {
         return true;
@@ -29,7 +29,7 @@ pub fn turned_down(status: Status) -> bool
 
 // One record more in the check.
 fn next_record(seen: Seen, n: usize, values: usize, p: Pair) -> Seen
-    ensures { seenOf result ≡ nextSeen n values (seenOf seen) (pair_of p) }
+    ensures { seen_of result ≡ next_seen n values (seen_of seen) (pair_of p) }
 {
     batch_refusals::next_pair(seen, n, values, p.offset, p.length)
 }
@@ -37,7 +37,7 @@ fn next_record(seen: Seen, n: usize, values: usize, p: Pair) -> Seen
 // The check: whether a batch over these records is turned down, and by which number. The records are read where the numbers and the lengths,
 // that of the list among them, are good.
 pub fn batch_fault(code: u32, rule: u32, values: usize, pairs: &[Pair], room: Room) -> Status
-    ensures { statusOf result ≡ judged (refusalsOf code rule values (pairsOf pairs.now) room) tt }
+    ensures { status_of result ≡ judged (refusals_of code rule values (pairs_of pairs.now) room) tt }
 {
     let head = batch_refusals::head_fault(code, rule, pairs.len(), room);
     if turned_down(head) {

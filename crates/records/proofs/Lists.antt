@@ -23,16 +23,16 @@ use denote.Slice.{Room, shr_slice_vals}
 use contract.Lifetimes.{Lfts, Shares}
 use Rattle.walks.proofs.Lend.{Handle, handle}
 use Rattle.walks.proofs.Plain.{nat, real, datum}
-use Rattle.walks.proofs.Args.{Param, plain-param, shared-slice, kept-slice}
+use Rattle.walks.proofs.Args.{Param, plain_param, shared-slice, kept-slice}
 use Rattle.walks.proofs.Loans.{Loan, hand, lend-slice, pass-slice}
 use Rattle.batch.specs.Calls.{Lent, lent, Batch, batch}
 use Rattle.record_check.specs.declared.Pair.{Pair}
-use Rattle.record_check.specs.Fields.{pairsOf}
+use Rattle.record_check.specs.Fields.{pairs_of}
 use Rattle.record_check.proofs.Types.{pair}
 
 abbrev pub params : List (Param 7)
 params =
-    plain-param (nat w32) ∷ plain-param (nat w32) ∷ plain-param (nat w16) ∷ plain-param (real binary32) ∷ shared-slice 0 tt f32 ∷ shared-slice 1 tt pair.row
+    plain_param (nat w32) ∷ plain_param (nat w32) ∷ plain_param (nat w16) ∷ plain_param (real binary32) ∷ shared-slice 0 tt f32 ∷ shared-slice 1 tt pair.row
     ∷ kept-slice 2 tt u8 ∷ kept-slice 3 tt u16 ∷ kept-slice 4 tt u16 ∷ kept-slice 5 tt u16 ∷ kept-slice 6 tt f32 ∷ []
 
 pub record Numbers : Type 0 where
@@ -46,7 +46,7 @@ pub record Numbers : Type 0 where
   pub scale-is : Is (real binary32).row scale (vfloat binary32 scale ∷ [])
 
 abbrev pub handed : Numbers → List Float → List Pair → Lent → Batch
-handed n vs ys m = batch n.code n.rule n.limit n.scale vs (pairsOf ys) m
+handed n vs ys m = batch n.code n.rule n.limit n.scale vs (pairs_of ys) m
 
 pub record Handles : Type 0 where
   pub values : Handle
@@ -88,8 +88,8 @@ Lasts = List ℕ × (List ℕ × (List ℕ × (List ℕ × (List Float × Unit {
 abbrev pub left : Lasts → Lent
 left ws = lent ws.0 ws.1.0 ws.1.1.0 ws.1.1.1.0 ws.1.1.1.1.0
 
-abbrev pub lasts-of : Lent → Lasts
-lasts-of l = (l.bits, (l.counts, (l.rounds, (l.firsts, (l.work, tt)))))
+abbrev pub lasts_of : Lent → Lasts
+lasts_of l = (l.bits, (l.counts, (l.rounds, (l.firsts, (l.work, tt)))))
 
 abbrev pub all-lasts : Lasts → Unit {0} × (Unit {0} × (Unit {0} × (Unit {0} × (Unit {0} × (Unit {0} × Lasts)))))
 all-lasts ws = (tt, (tt, (tt, (tt, (tt, (tt, ws))))))

@@ -1,13 +1,13 @@
 // The batch over a lent list of pair records. They are read where they lie, by a thin batch call: a record at a time, which is taken by value from
 // there on. Crate `one_frame` does the work; the check is `record_check`'s.
 ghost use Rattle.std.specs.Prelude.{◌≡◌};
-ghost use Rattle.refusal.specs.Answers.{statusOf};
+ghost use Rattle.refusal.specs.Answers.{status_of};
 ghost use Rattle.work_area.specs.Area.{cleared};
-ghost use Rattle.batch.specs.Codes.{sizeN, sizeK, decodeOf};
+ghost use Rattle.batch.specs.Codes.{size_n, size_k, decode_of};
 ghost use Rattle.batch.specs.Pairs.{pair, frame_of};
 ghost use Rattle.batch.specs.Calls.{lent, batch, written, Answered};
 ghost use Rattle.batch.specs.Steps.{Fitting, PlaceFits, placed};
-ghost use Rattle.record_check.specs.Fields.{pairsOf};
+ghost use Rattle.record_check.specs.Fields.{pairs_of};
 
 use batch_refusals::Room;
 use record_check::Pair;
@@ -30,7 +30,7 @@ fn decode_record(
 )
     requires { PlaceFits code p.offset j values.now (lent bits.old counts.old rounds.old firsts.old work.old) }
     ensures { lent bits.new counts.new rounds.new firsts.new (cleared work.new)
-        ≡ placed (decodeOf code rule scale (frame_of values.now (pair p.offset (sizeN code)))) limit (sizeK code) j
+        ≡ placed (decode_of code rule scale (frame_of values.now (pair p.offset (size_n code)))) limit (size_k code) j
         (lent bits.old counts.old rounds.old firsts.old work.old) }
 {
     one_frame::decode_place(
@@ -52,10 +52,10 @@ fn decode_records(
     firsts: &mut [u16],
     work: &mut [f32],
 )
-    requires { Fitting (batch code rule limit scale values.now (pairsOf pairs.now)
+    requires { Fitting (batch code rule limit scale values.now (pairs_of pairs.now)
         (lent bits.old counts.old rounds.old firsts.old work.old)) }
     ensures { lent bits.new counts.new rounds.new firsts.new work.new
-        ≡ written (batch code rule limit scale values.now (pairsOf pairs.now)
+        ≡ written (batch code rule limit scale values.now (pairs_of pairs.now)
         (lent bits.old counts.old rounds.old firsts.old work.old)) }
 {
     let mut j = 0;
@@ -84,9 +84,9 @@ pub fn decode_pairs(
     work: &mut [f32],
 ) -> Status
     ensures { Answered
-        (batch code rule limit scale values.now (pairsOf pairs.now)
+        (batch code rule limit scale values.now (pairs_of pairs.now)
         (lent bits.old counts.old rounds.old firsts.old work.old))
-        (statusOf result)
+        (status_of result)
         (lent bits.new counts.new rounds.new firsts.new work.new) }
 {
     let room = Room {

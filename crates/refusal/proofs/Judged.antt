@@ -27,9 +27,9 @@ module _ {A : Type 0} where
       → cond t (refused n) x ≡ y
   judged-past-by t n rest x y e f = let p = passed-by t n rest e in rw p.not-held (f p.others)
 
-  pub judged-past : (xs ys : List Condition) (a : A) → verdict xs ≡ nothing → judged (xs ++ ys) a ≡ judged ys a
-  judged-past [] ys a e = refl
-  judged-past (c ∷ xs) ys a e = judged-past-by c.holds c.number (verdict xs) (judged (xs ++ ys) a) (judged ys a) e (judged-past xs ys a)
+  pub judged_past : (xs ys : List Condition) (a : A) → verdict xs ≡ nothing → judged (xs ++ ys) a ≡ judged ys a
+  judged_past [] ys a e = refl
+  judged_past (c ∷ xs) ys a e = judged-past-by c.holds c.number (verdict xs) (judged (xs ++ ys) a) (judged ys a) e (judged_past xs ys a)
 
   kept-past-by : (t : Bool) (n : ℕ) (rest : Outcome Unit) (old x y : A) → cond t (refused n) rest ≡ nothing → (rest ≡ nothing → x ≡ y) → cond t old x ≡ y
   kept-past-by t n rest old x y e f = let p = passed-by t n rest e in rw p.not-held (f p.others)
@@ -49,30 +49,30 @@ module _ {A : Type 0} where
   kept-front-by false n k rest old x e f = f e
 
 -- of one run
-pub judged-accepted : {A : Type 0} (xs : List Condition) (a : A) → verdict xs ≡ nothing → judged xs a ≡ accepted a
-judged-accepted [] a e = refl
-judged-accepted (c ∷ xs) a e = judged-past-by c.holds c.number (verdict xs) (judged xs a) (accepted a) e (judged-accepted xs a)
+pub judged_accepted : {A : Type 0} (xs : List Condition) (a : A) → verdict xs ≡ nothing → judged xs a ≡ accepted a
+judged_accepted [] a e = refl
+judged_accepted (c ∷ xs) a e = judged-past-by c.holds c.number (verdict xs) (judged xs a) (accepted a) e (judged_accepted xs a)
 
-pub judged-refused : {A : Type 0} (xs : List Condition) (a : A) (k : ℕ) → verdict xs ≡ refused k → judged xs a ≡ refused k
-judged-refused [] a k e = let z : ◌≡◌ {A = ℕ} 0 1 = cc in absurd (omega arith)
-judged-refused (c ∷ xs) a k e = judged-front-by c.holds c.number k (verdict xs) (judged xs a) e (judged-refused xs a k)
+pub judged_refused : {A : Type 0} (xs : List Condition) (a : A) (k : ℕ) → verdict xs ≡ refused k → judged xs a ≡ refused k
+judged_refused [] a k e = let z : ◌≡◌ {A = ℕ} 0 1 = cc in absurd (omega arith)
+judged_refused (c ∷ xs) a k e = judged-front-by c.holds c.number k (verdict xs) (judged xs a) e (judged_refused xs a k)
 
-pub kept-accepted : {A : Type 0} (xs : List Condition) (old new : A) → verdict xs ≡ nothing → kept xs old new ≡ new
-kept-accepted [] old new e = refl
-kept-accepted (c ∷ xs) old new e =
-    kept-past-by c.holds c.number (verdict xs) old (kept xs old new) new e (kept-accepted xs old new)
+pub kept_accepted : {A : Type 0} (xs : List Condition) (old new : A) → verdict xs ≡ nothing → kept xs old new ≡ new
+kept_accepted [] old new e = refl
+kept_accepted (c ∷ xs) old new e =
+    kept-past-by c.holds c.number (verdict xs) old (kept xs old new) new e (kept_accepted xs old new)
 
-pub kept-refused : {A : Type 0} (xs : List Condition) (old new : A) (k : ℕ) → verdict xs ≡ refused k → kept xs old new ≡ old
-kept-refused [] old new k e = let z : ◌≡◌ {A = ℕ} 0 1 = cc in absurd (omega arith)
-kept-refused (c ∷ xs) old new k e = kept-front-by c.holds c.number k (verdict xs) old (kept xs old new) e (kept-refused xs old new k)
+pub kept_refused : {A : Type 0} (xs : List Condition) (old new : A) (k : ℕ) → verdict xs ≡ refused k → kept xs old new ≡ old
+kept_refused [] old new k e = let z : ◌≡◌ {A = ℕ} 0 1 = cc in absurd (omega arith)
+kept_refused (c ∷ xs) old new k e = kept-front-by c.holds c.number k (verdict xs) old (kept xs old new) e (kept_refused xs old new k)
 
 -- where both runs are accepted, each is
-pub accepted-front : (xs ys : List Condition) → verdict (xs ++ ys) ≡ nothing → verdict xs ≡ nothing
-accepted-front [] ys e = refl
-accepted-front (c ∷ xs) ys e =
+pub accepted_front : (xs ys : List Condition) → verdict (xs ++ ys) ≡ nothing → verdict xs ≡ nothing
+accepted_front [] ys e = refl
+accepted_front (c ∷ xs) ys e =
     let p = passed-by c.holds c.number (verdict (xs ++ ys)) e in
-    rw p.not-held (accepted-front xs ys p.others)
+    rw p.not-held (accepted_front xs ys p.others)
 
-pub accepted-rest : (xs ys : List Condition) → verdict (xs ++ ys) ≡ nothing → verdict ys ≡ nothing
-accepted-rest [] ys e = e
-accepted-rest (c ∷ xs) ys e = accepted-rest xs ys (passed-by c.holds c.number (verdict (xs ++ ys)) e).others
+pub accepted_rest : (xs ys : List Condition) → verdict (xs ++ ys) ≡ nothing → verdict ys ≡ nothing
+accepted_rest [] ys e = e
+accepted_rest (c ∷ xs) ys e = accepted_rest xs ys (passed-by c.holds c.number (verdict (xs ++ ys)) e).others

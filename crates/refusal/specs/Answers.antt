@@ -9,9 +9,9 @@ use Rattle.refusal.specs.declared.Answer.{Answer}
 use Rattle.refusal.specs.declared.Answer.TheVariants as answer
 
 -- a call that only writes has no value beside what it writes
-abbrev pub statusOf : Status → Outcome Unit
-statusOf status.Done = accepted tt
-statusOf (status.Refused r) = refused (number_of r)
+abbrev pub status_of : Status → Outcome Unit
+status_of status.Done = accepted tt
+status_of (status.Refused r) = refused (number_of r)
 
 abbrev pub answer_of : Answer → Outcome ℕ
 answer_of (answer.Value n) = accepted n

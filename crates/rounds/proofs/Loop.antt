@@ -10,20 +10,20 @@ use lib.Dec.{eqb, ltb}
 use lib.Ieee.{Float}
 use lib.ListN.{length, take}
 use Rattle.tanner.specs.Checks.{Checks, Word, count, Syndrome, syndrome}
-use Rattle.tanner.specs.Masked.{countMasked, firstMasked, syndromeMasked}
-use Rattle.tanner.specs.Found.{first_of, syndromeOf}
+use Rattle.tanner.specs.Masked.{count_masked, first_masked, syndrome_masked}
+use Rattle.tanner.specs.Found.{first_of, syndrome_of}
 use Rattle.lists.specs.Below.{Below}
 use Rattle.tanner.proofs.First.{both}
 use Rattle.tanner.specs.declared.Counted.{Counted}
 use Rattle.tanner.specs.declared.FirstCheck.{FirstCheck}
-use Rattle.one_round.specs.Round.{Decode, answers, sent, firstMessages, initialWord}
-use Rattle.rounds.specs.Rounds.{wordsFrom, roundWords}
-use Rattle.rounds.specs.Rounds.{roundsRun, unlessDone, better, chosenFrom, chosen, chosenCount, chosenFirst, chosenBits}
+use Rattle.one_round.specs.Round.{Decode, answers, sent, first_messages, initial_word}
+use Rattle.rounds.specs.Rounds.{words_from, round_words}
+use Rattle.rounds.specs.Rounds.{rounds_run, unless_done, better, chosen_from, chosen, chosen_count, chosen_first, chosen_bits}
 use Rattle.rounds.specs.Told.{Told, Chose}
 use Rattle.one_round.specs.Held.{Holds, RoundDone}
-use Rattle.rounds.specs.Run.{Kept, Ran, countedOf}
+use Rattle.rounds.specs.Run.{Kept, Ran, counted_of}
 use Rattle.rounds.specs.declared.Decoded.{Decoded}
-use Rattle.one_round.proofs.BitWords.{word-bits, masked-word}
+use Rattle.one_round.proofs.BitWords.{word_bits, masked_word}
 
 -- with `left` rounds to go, after `done` of them: the messages that the work area holds, the kept word, that the choice from here is the goal, and that the
 -- rounds are `all`
@@ -32,8 +32,8 @@ pub record Running (d : Decode) (m g k left : ℕ) (work : List Float) (bits : L
   pub holds : Holds d.checks m g work ms
   pub word : Word
   pub held : Kept d.checks k word bits kept
-  pub ahead : chosenFrom d.checks word (wordsFrom d left ms) ≡ goal
-  pub run : done + length (wordsFrom d left ms) ≡ all
+  pub ahead : chosen_from d.checks word (words_from d left ms) ≡ goal
+  pub run : done + length (words_from d left ms) ≡ all
 
 count_of : (cs : Checks) (k : ℕ) (word : Word) (bits : List ℕ) (kept : Counted) → Kept cs k word bits kept → kept.count ≡ count cs word
 count_of cs k word bits kept h = ap (λ (s : Syndrome). s.count) h.counted
@@ -42,19 +42,19 @@ count_of cs k word bits kept h = ap (λ (s : Syndrome). s.count) h.counted
 
 -- what the round counts is what the mask counts, and so is what is found then
 module _ (d : Decode) (m g : ℕ) (ms next : List Float) (w : Word) (found : ℕ) (r : RoundDone d m g ms next w found) where
-  masked : syndromeMasked 1 d.checks w ≡ syndrome d.checks w
-  masked = masked-word d.checks w (subst (λ (v : Word). Below 2 v) (sym r.decision) (word-bits d _))
+  masked : syndrome_masked 1 d.checks w ≡ syndrome d.checks w
+  masked = masked_word d.checks w (subst (λ (v : Word). Below 2 v) (sym r.decision) (word_bits d _))
 
-  pub round-masked : found ≡ countMasked 1 d.checks w
+  pub round-masked : found ≡ count_masked 1 d.checks w
   round-masked = r.counted ∙ sym (ap (λ (s : Syndrome). s.count) masked)
 
-  pub round-found : (lowest : FirstCheck) → first_of lowest ≡ firstMasked 1 d.checks w
-      → syndromeOf (record { count = found; first = lowest }) ≡ syndrome d.checks w
+  pub round-found : (lowest : FirstCheck) → first_of lowest ≡ first_masked 1 d.checks w
+      → syndrome_of (record { count = found; first = lowest }) ≡ syndrome d.checks w
   round-found lowest f = ap₂ both round-masked f ∙ masked
 
 module _ (cs : Checks) (k : ℕ) (word w : Word) (bits bits' : List ℕ) (kept kept' : Counted) (found : ℕ) (h : Kept cs k word bits kept)
     (c : found ≡ count cs w) where
-  pub kept-better : found < kept.count → bits' ≡ take k w → syndromeOf kept' ≡ syndrome cs w → Kept cs k (better cs word w) bits' kept'
+  pub kept-better : found < kept.count → bits' ≡ take k w → syndrome_of kept' ≡ syndrome cs w → Kept cs k (better cs word w) bits' kept'
   kept-better l e f =
       let t : ltb (count cs w) (count cs word) ≡ true = lt-ltb (count cs w) (count cs word) (omega (arith, count_of cs k word bits kept h)) in
       rw t (record { front = e; counted = f })
@@ -73,12 +73,12 @@ module _ (d : Decode) (m g k left : ℕ) (work next : List Float) (w : Word) (bi
   abbrev after : List Float
   after = sent d (answers d s.ms)
 
-  opened : chosenFrom d.checks (better d.checks s.word w) (unlessDone d w (wordsFrom d left after)) ≡ goal
-  unfolding wordsFrom chosenFrom
+  opened : chosen_from d.checks (better d.checks s.word w) (unless_done d w (words_from d left after)) ≡ goal
+  unfolding words_from chosen_from
   opened = rw r.decision s.ahead
 
-  counted-off : done + suc (length (unlessDone d w (wordsFrom d left after))) ≡ all
-  unfolding wordsFrom
+  counted-off : done + suc (length (unless_done d w (words_from d left after))) ≡ all
+  unfolding words_from
   counted-off = rw r.decision s.run
 
   pub round-on : (found ≡ 0 → ⊥) → Running d m g k left next bits' kept' (done + 1) goal all
@@ -94,15 +94,15 @@ module _ (d : Decode) (m g k left : ℕ) (work next : List Float) (w : Word) (bi
       }
 
   pub round-out : found ≡ 0 → Kept d.checks k goal bits' kept' × (done + 1 ≡ all)
-  unfolding chosenFrom
+  unfolding chosen_from
   round-out e =
       let t : eqb (count d.checks w) 0 ≡ true = eq-eqb (count d.checks w) 0 (sym r.counted ∙ e) in
       (subst (λ (v : Word). Kept d.checks k v bits' kept') (rw t at opened) b, omega (arith, rw t at counted-off))
 
-pub rounds-out : (d : Decode) (m g k : ℕ) (work : List Float) (bits : List ℕ) (kept : Counted) (done : ℕ) (goal : Word) (all : ℕ)
+pub rounds_out : (d : Decode) (m g k : ℕ) (work : List Float) (bits : List ℕ) (kept : Counted) (done : ℕ) (goal : Word) (all : ℕ)
     → Running d m g k 0 work bits kept done goal all → Kept d.checks k goal bits kept × (done ≡ all)
-unfolding wordsFrom chosenFrom
-rounds-out d m g k work bits kept done goal all s = (subst (λ (v : Word). Kept d.checks k v bits kept) s.ahead s.held, omega (arith, s.run))
+unfolding words_from chosen_from
+rounds_out d m g k work bits kept done goal all s = (subst (λ (v : Word). Kept d.checks k v bits kept) s.ahead s.held, omega (arith, s.run))
 
 -- ---- the whole decode: no round where the initial word satisfies every check
 
@@ -110,23 +110,23 @@ abbrev tell : Syndrome → ℕ → Told
 tell s n = record { count = s.count; rounds = n; first = s.first }
 
 -- what is kept of the chosen word after these rounds is what the decode tells
-chose : (d : Decode) (k limit : ℕ) (bits : List ℕ) (r : Decoded) → Kept d.checks k (chosen d limit) bits (countedOf r) → r.rounds ≡ roundsRun d limit
+chose : (d : Decode) (k limit : ℕ) (bits : List ℕ) (r : Decoded) → Kept d.checks k (chosen d limit) bits (counted_of r) → r.rounds ≡ rounds_run d limit
     → Chose d limit k r bits
-unfolding chosenCount chosenFirst chosenBits
+unfolding chosen_count chosen_first chosen_bits
 chose d k limit bits r h n = record { tells = ap₂ tell h.counted n; front = h.front }
 
 module _ (d : Decode) (k limit : ℕ) (bits : List ℕ) (r : Decoded) where
-  pub none-run : r.count ≡ 0 → Kept d.checks k (initialWord d) bits (countedOf r) → r.rounds ≡ 0 → Chose d limit k r bits
-  unfolding chosen roundWords roundsRun chosenFrom
+  pub none-run : r.count ≡ 0 → Kept d.checks k (initial_word d) bits (counted_of r) → r.rounds ≡ 0 → Chose d limit k r bits
+  unfolding chosen round_words rounds_run chosen_from
   none-run e h n =
-      let t : eqb (count d.checks (initialWord d)) 0 ≡ true =
-      eq-eqb (count d.checks (initialWord d)) 0 (sym (count_of d.checks k (initialWord d) bits (countedOf r) h) ∙ e)
+      let t : eqb (count d.checks (initial_word d)) 0 ≡ true =
+      eq-eqb (count d.checks (initial_word d)) 0 (sym (count_of d.checks k (initial_word d) bits (counted_of r) h) ∙ e)
       in
       chose d k limit bits r (rw t h) (rw t n)
 
-  pub some-run : (before : ℕ) → (before ≡ 0 → ⊥) → before ≡ count d.checks (initialWord d) → Ran d k limit (initialWord d) (firstMessages d) bits r
+  pub some-run : (before : ℕ) → (before ≡ 0 → ⊥) → before ≡ count d.checks (initial_word d) → Ran d k limit (initial_word d) (first_messages d) bits r
       → Chose d limit k r bits
-  unfolding chosen roundWords roundsRun
+  unfolding chosen round_words rounds_run
   some-run before n e h =
-      let t : eqb (count d.checks (initialWord d)) 0 ≡ false = ne_eqb (count d.checks (initialWord d)) 0 (λ z. n (e ∙ z)) in
+      let t : eqb (count d.checks (initial_word d)) 0 ≡ false = ne_eqb (count d.checks (initial_word d)) 0 (λ z. n (e ∙ z)) in
       chose d k limit bits r (rw t h.kept) (rw t h.rounds)

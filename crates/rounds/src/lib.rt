@@ -1,7 +1,7 @@
 // The rounds of a decode, one after the other, to the first word of count 0 or to the limit.
 ghost use Rattle.std.specs.Prelude.{◌≡◌, List, ◌<◌, ◌≤◌, Float, length};
-ghost use Rattle.passes.specs.Codes.{sizeN, checksBy, room};
-ghost use Rattle.one_round.specs.Held.{decodeAt, HeldBy};
+ghost use Rattle.passes.specs.Codes.{size_n, checks_by, room};
+ghost use Rattle.one_round.specs.Held.{decode_at, HeldBy};
 ghost use Rattle.rounds.specs.Run.{Kept, Ran};
 
 use softmath::DecodeRule;
@@ -27,13 +27,13 @@ pub fn rounds(
     bits: &mut [u8],
 ) -> Decoded
     requires code_bound { code < 4 }
-    requires llr_len { length llr.now ≡ sizeN code }
+    requires llr_len { length llr.now ≡ size_n code }
     requires messages_len { length messages.old ≡ room code }
-    requires hard_len { length hard.old ≡ sizeN code }
-    requires bits_len_bound { length bits.old ≤ sizeN code }
-    requires kept { Kept (checksBy code) (length bits.old) hard.old bits.old first }
+    requires hard_len { length hard.old ≡ size_n code }
+    requires bits_len_bound { length bits.old ≤ size_n code }
+    requires kept { Kept (checks_by code) (length bits.old) hard.old bits.old first }
     ensures { (ms : List Float) → HeldBy code messages.old ms
-        → Ran (decodeAt code rule llr.now) (length bits.old) limit hard.old ms bits.new result }
+        → Ran (decode_at code rule llr.now) (length bits.old) limit hard.old ms bits.new result }
 {
     let mut kept = first;
     let mut done: u16 = 0;

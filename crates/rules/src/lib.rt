@@ -1,6 +1,6 @@
 // The decode rules by number: the check step that a frame of a code is decoded by.
 ghost use Rattle.std.specs.Prelude.{◌≡◌};
-ghost use Rattle.rules.specs.Rules.{staircaseRule, ft8Rule, ruleOf, asStored};
+ghost use Rattle.rules.specs.Rules.{staircase_rule, ft8_rule, rule_of, as_stored};
 
 use softmath::DecodeRule;
 
@@ -9,7 +9,7 @@ const HOUSE_SCALE: f32 = 0.75;
 
 // The check step of a staircase code under the rule with that number.
 pub fn staircase_rule(rule: u32, scale: f32) -> DecodeRule
-    ensures { result ≡ staircaseRule rule scale }
+    ensures { result ≡ staircase_rule rule scale }
 {
     if rule == 0 {
         return DecodeRule::SumProduct;
@@ -25,7 +25,7 @@ pub fn staircase_rule(rule: u32, scale: f32) -> DecodeRule
 
 // The check step of (174,91) under the rule with that number.
 fn ft8_rule(rule: u32) -> DecodeRule
-    ensures { result ≡ ft8Rule rule }
+    ensures { result ≡ ft8_rule rule }
 {
     if rule > 0 {
         return DecodeRule::SumProduct;
@@ -35,7 +35,7 @@ fn ft8_rule(rule: u32) -> DecodeRule
 
 // The check step that a frame of the code is decoded by.
 pub fn rule_of(code: u32, rule: u32, scale: f32) -> DecodeRule
-    ensures { result ≡ ruleOf code rule scale }
+    ensures { result ≡ rule_of code rule scale }
 {
     if code > 2 {
         return ft8_rule(rule);
@@ -45,7 +45,7 @@ pub fn rule_of(code: u32, rule: u32, scale: f32) -> DecodeRule
 
 // A stored batch's rule as it was meant.
 pub fn stored_rule(rule: u32) -> u32
-    ensures { result ≡ asStored rule }
+    ensures { result ≡ as_stored rule }
 {
     if rule == 3 {
         return 0;

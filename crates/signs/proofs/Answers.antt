@@ -16,19 +16,19 @@ use lib.Ieee.{Float, fin, binary32, up, down, unlike, neg, lt, eq, mul, fits, of
 use lib.Ieee.Fits.{down_pos, cond-fits, neg-fits, div-fits}
 use lib.Ieee.Bits.{of_bits-fits}
 use Rattle.softmath.specs.Single.{◌⊕◌, ◌⊗◌, zero32, one32, two32, product}
-use Rattle.softmath.specs.Functions.{atanh, clampUnit}
-use Rattle.softmath.specs.CheckNode.{halfTanh, negatedHalfTanh, clampedAnswer, negatedAnswer, ft8Answer}
+use Rattle.softmath.specs.Functions.{atanh, clamp_unit}
+use Rattle.softmath.specs.CheckNode.{half_tanh, negated_half_tanh, clamped_answer, negated_answer, ft8_answer}
 use Rattle.code174.proofs.Agreement.{agreed}
-use Rattle.signs.specs.Signs.{oddly, negative, oddNegatives, oddLength, NoneNan, Nonzero, productOf, ProductSign, negatedProductOf, nearPole, BelowPole}
+use Rattle.signs.specs.Signs.{oddly, negative, odd_negatives, odd_length, NoneNan, Nonzero, product_of, ProductSign, negated_product_of, near_pole, BelowPole}
 use Rattle.signs.specs.Signs.{NegatedSign, Ft8Signs}
-use Rattle.signs.proofs.Rounded.{Signed, infinite, finite, Held, Part, part, part-signed, round-part}
-use Rattle.signs.proofs.Laws.{held, part_in, mul-part, less-part, div-part, false-unlike, true-unlike, sign-as, below-edge, above-edge}
-use Rattle.softmath.proofs.Floats.{unlike-false, fold-fits}
-use Rattle.signs.proofs.Tanh.{is-945}
-use Rattle.signs.proofs.Laws.{between-edges}
-use Rattle.signs.proofs.Floor.{Units, AtMost, at_most, times-units, quotient-nonzero, fits-units, twice-nonzero, square-at-most, held-tiny, held-near}
-use Rattle.signs.proofs.Pole.{below-pole}
-use Rattle.signs.proofs.Products.{nonzero-signed, signed-compared, product-sign, negated-sign, product-number, negated-number}
+use Rattle.signs.proofs.Rounded.{Signed, infinite, finite, Held, Part, part, part_signed, round-part}
+use Rattle.signs.proofs.Laws.{held, part_in, mul_part, less_part, div_part, false-unlike, true-unlike, sign_as, below_edge, above_edge}
+use Rattle.softmath.proofs.Floats.{unlike-false, fold_fits}
+use Rattle.signs.proofs.Tanh.{is_945}
+use Rattle.signs.proofs.Laws.{between_edges}
+use Rattle.signs.proofs.Floor.{Units, AtMost, at_most, times-units, quotient_nonzero, fits-units, twice_nonzero, square_at_most, held_tiny, held_near}
+use Rattle.signs.proofs.Pole.{below_pole}
+use Rattle.signs.proofs.Products.{nonzero-signed, signed_compared, product_sign, negated_sign, product-number, negated-number}
 
 -- ---- the constants
 
@@ -48,9 +48,9 @@ is-225 : Part false 225 225 (of_bits binary32 0x43610000)
 unfolding of_bits
 is-225 = part (lit≤ tt) (lit≤ tt)
 
-is-two : Part false 2 2 two32
+is_two : Part false 2 2 two32
 unfolding of_bits
-is-two = part (lit≤ tt) (lit≤ tt)
+is_two = part (lit≤ tt) (lit≤ tt)
 
 is-minus-two : Part true 2 2 (neg two32)
 unfolding neg of_bits
@@ -98,30 +98,30 @@ module _ (m : ℕ) (e : ℤ) (h : m * up e * 256 ≤ 289 * down e) where
 
   upper-inner : Part true 607 735 (neg (of_bits binary32 0x4437c000) ⊕ fin false m e ⊗ of_bits binary32 0x42800000)
   upper-inner =
-      less-part 735 735 0 128 607 735 (held 607 tt) (held 735 tt) (lit≤ tt) (lit≤ tt) (lit< tt) true is-minus-735
-      (mul-part 0 2 64 64 (held 0 tt) (held 128 tt) two-part is_64)
+      less_part 735 735 0 128 607 735 (held 607 tt) (held 735 tt) (lit≤ tt) (lit≤ tt) (lit< tt) true is-minus-735
+      (mul_part 0 2 64 64 (held 0 tt) (held 128 tt) two-part is_64)
 
   upper-near : Part false 115 945 (upper (fin false m e))
   upper-near =
-      less-part 945 945 0 830 115 945 (held 115 tt) (held 945 tt) (lit≤ tt) (lit≤ tt) (lit< tt) false is-945
+      less_part 945 945 0 830 115 945 (held 115 tt) (held 945 tt) (lit≤ tt) (lit≤ tt) (lit< tt) false is_945
       (ratio-part 289 256 607 735 830 (held 830 tt) (lit< tt) (lit≤ tt) m e h upper-inner)
 
   -- x² at most a half, from there to 1, and from there on
   small : m * up e * 2 ≤ 1 * down e → Part true 0 938 (fin false m e ⊗ middle (fin false m e))
   small g =
-      let a = mul-part 0 2 225 225 (held 0 tt) (held 450 tt) two-part is-225 in
-      let b = less-part 1050 1050 0 450 600 1050 (held 600 tt) (held 1050 tt) (lit≤ tt) (lit≤ tt) (lit< tt) true is-minus-1050 a in
+      let a = mul_part 0 2 225 225 (held 0 tt) (held 450 tt) two-part is-225 in
+      let b = less_part 1050 1050 0 450 600 1050 (held 600 tt) (held 1050 tt) (lit≤ tt) (lit≤ tt) (lit< tt) true is-minus-1050 a in
       ratio-part 1 2 600 1050 938 (held 938 tt) (lit< tt) (lit≤ tt) m e g b
 
   large : down e ≤ m * up e * 2 → m * up e * 1 ≤ 1 * down e → Part true 0 938 (fin false m e ⊗ middle (fin false m e))
   large g g' =
-      let b = less-part 1050 1050 112 225 825 938 (held 825 tt) (held 938 tt) (lit≤ tt) (lit≤ tt) (lit< tt) true is-minus-1050
+      let b = less_part 1050 1050 112 225 825 938 (held 825 tt) (held 938 tt) (lit≤ tt) (lit≤ tt) (lit< tt) true is-minus-1050
       (scaled 112 225 (held 112 tt) (held 225 tt) m e (omega arith) (omega arith)) in
       ratio-part 1 1 825 938 938 (held 938 tt) (lit< tt) (lit≤ tt) m e g' b
 
   over : down e ≤ m * up e → Part true 0 938 (fin false m e ⊗ middle (fin false m e))
   over g =
-      let b = less-part 1050 1050 225 450 600 825 (held 600 tt) (held 825 tt) (lit≤ tt) (lit≤ tt) (lit< tt) true is-minus-1050
+      let b = less_part 1050 1050 225 450 600 825 (held 600 tt) (held 825 tt) (lit≤ tt) (lit≤ tt) (lit< tt) true is-minus-1050
       (scaled 225 450 (held 225 tt) (held 450 tt) m e (omega arith) (omega arith)) in
       ratio-part 289 256 600 825 938 (held 938 tt) (lit< tt) (lit≤ tt) m e h b
 
@@ -134,7 +134,7 @@ module _ (m : ℕ) (e : ℤ) (h : m * up e * 256 ≤ 289 * down e) where
       go true true t u = over (let l = ltb-true (down e) (m * up e) u in omega arith)
 
   lower-near : Part false 7 945 (lower (fin false m e))
-  lower-near = less-part 945 945 0 938 7 945 (held 7 tt) (held 945 tt) (lit≤ tt) (lit≤ tt) (lit< tt) false is-945 middle-product
+  lower-near = less_part 945 945 0 938 7 945 (held 7 tt) (held 945 tt) (lit≤ tt) (lit≤ tt) (lit< tt) false is_945 middle-product
 
 upper-part : {xx : Float} → AtMost 289 256 xx → Part false 115 945 (upper xx)
 upper-part (at_most {m = m} {e = e} h) = upper-near m e h
@@ -160,13 +160,13 @@ unit-near (part {m = m} {e = e} lo hi) =
     near h
 
 square-near : {s : Bool} {x : Float} → Near s x → AtMost 289 256 (x ⊗ x)
-square-near {s} (near {m = m} {e = e} h) = square-at-most 17 16 held-near (lit< tt) s m e h
+square-near {s} (near {m = m} {e = e} h) = square_at_most 17 16 held_near (lit< tt) s m e h
 
 pub atanh-kept : {s : Bool} {x : Float} → Near s x → Part s 0 270 (atanh x)
 unfolding atanh
 atanh-kept {s} g =
-    let n = mul-part 0 2 115 945 (held 0 tt) (held 1890 tt) (near-part g) (upper-part (square-near g)) in
-    sign-as (unlike-false s) (div-part 1890 7 945 270 (held 270 tt) (lit< tt) (lit≤ tt) (sign-as (unlike-false s) n) (lower-part (square-near g)))
+    let n = mul_part 0 2 115 945 (held 0 tt) (held 1890 tt) (near-part g) (upper-part (square-near g)) in
+    sign_as (unlike-false s) (div_part 1890 7 945 270 (held 270 tt) (lit< tt) (lit≤ tt) (sign_as (unlike-false s) n) (lower-part (square-near g)))
 
 is_one : Part false 1 1 one32
 unfolding of_bits
@@ -176,20 +176,20 @@ minus_one : Part true 0 1 (neg one32)
 unfolding neg of_bits
 minus_one = part (lit≤ tt) (lit≤ tt)
 
-clamp-kept : {s : Bool} {p : Float} → Signed s p → Part s 0 1 (clampUnit p)
-unfolding clampUnit
+clamp-kept : {s : Bool} {p : Float} → Signed s p → Part s 0 1 (clamp_unit p)
+unfolding clamp_unit
 clamp-kept {s} {p} g = go (lt p (neg one32)) (lt one32 p) refl refl
   where
     go : (a b : Bool) → lt p (neg one32) ≡ a → lt one32 p ≡ b → Part s 0 1 (cond a (neg one32) (cond b one32 p))
-    go true b h k = rw (below-edge is_one g h) minus_one
-    go false true h k = rw (above-edge is_one g k) (part_in 0 1 (lit≤ tt) (lit≤ tt) is_one)
-    go false false h k = between-edges is_one g h k
+    go true b h k = rw (below_edge is_one g h) minus_one
+    go false true h k = rw (above_edge is_one g k) (part_in 0 1 (lit≤ tt) (lit≤ tt) is_one)
+    go false false h k = between_edges is_one g h k
 
 -- ---- what is no zero has an `atanh` that is none: of a tiny x the fraction's upper part is 944 or more, and a larger x has size enough
 
 upper-tiny : {xx : Float} → AtMost 1 1024 xx → Part false 944 945 (upper xx)
 upper-tiny (at_most {m = m} {e = e} h) =
-    less-part 945 945 0 1 944 945 (held 944 tt) (held 945 tt) (lit≤ tt) (lit≤ tt) (lit< tt) false is-945
+    less_part 945 945 0 1 944 945 (held 944 tt) (held 945 tt) (lit≤ tt) (lit≤ tt) (lit< tt) false is_945
     (ratio-part 1 1024 607 735 1 (held 1 tt) (lit< tt) (lit≤ tt) m e h (upper-inner m e (omega arith)))
 
 module _ (s : Bool) (m : ℕ) (e : ℤ) (g : Near s (fin s m e)) (f : T (fits binary32 (fin s m e))) (z : eq (fin s m e) zero32 ≡ false) where
@@ -203,12 +203,12 @@ module _ (s : Bool) (m : ℕ) (e : ℤ) (g : Near s (fin s m e)) (f : T (fits bi
           times-units 16 115 945 (lit≤ tt) s m e (le_trans h (mul-le-mul_left (m * up e) (lit≤ tt))) (upper-part (square-near g))
       go false t =
           times-units 1 944 945 (lit≤ tt) s m e (fits-units s m e f z)
-          (upper-tiny (square-at-most 1 32 held-tiny (lit< tt) s m e (let l = ltb-false (down e) (m * up e * 32) t in omega arith)))
+          (upper-tiny (square_at_most 1 32 held_tiny (lit< tt) s m e (let l = ltb-false (down e) (m * up e * 32) t in omega arith)))
 
   finite-nonzero : eq (atanh (fin s m e)) zero32 ≡ false
   unfolding atanh
   finite-nonzero =
-      quotient-nonzero 7 (lit< tt) (mul-part 0 2 115 945 (held 0 tt) (held 1890 tt) (near-part g) (upper-part (square-near g))) numerator-units
+      quotient_nonzero 7 (lit< tt) (mul_part 0 2 115 945 (held 0 tt) (held 1890 tt) (near-part g) (upper-part (square-near g))) numerator-units
       (lower-part (square-near g))
 
 atanh-nonzero : {s : Bool} {x : Float} → Near s x → T (fits binary32 x) → eq x zero32 ≡ false → eq (atanh x) zero32 ≡ false
@@ -216,18 +216,18 @@ atanh-nonzero {s} (near {m = m} {e = e} h) f z = finite-nonzero s m e (near h) f
 
 -- ---- the answers
 
-pub clamped-kept : {s : Bool} {p : Float} → Signed s p → Part s 0 540 (clampedAnswer p)
-clamped-kept {s} g = sign-as (false-unlike s) (mul-part 2 2 0 270 (held 0 tt) (held 540 tt) is-two (atanh-kept (unit-near (clamp-kept g))))
+pub clamped-kept : {s : Bool} {p : Float} → Signed s p → Part s 0 540 (clamped_answer p)
+clamped-kept {s} g = sign_as (false-unlike s) (mul_part 2 2 0 270 (held 0 tt) (held 540 tt) is_two (atanh-kept (unit-near (clamp-kept g))))
 
-pub negated-kept : {s : Bool} {q : Float} → Near s q → Part (not s) 0 540 (negatedAnswer q)
-negated-kept {s} g = sign-as (true-unlike s) (mul-part 2 2 0 270 (held 0 tt) (held 540 tt) is-minus-two (atanh-kept g))
+pub negated-kept : {s : Bool} {q : Float} → Near s q → Part (not s) 0 540 (negated_answer q)
+negated-kept {s} g = sign_as (true-unlike s) (mul_part 2 2 0 270 (held 0 tt) (held 540 tt) is-minus-two (atanh-kept g))
 
 -- f32 holds a product, the clamped one, and an `atanh`
 product-fits : (ts : List Float) → T (fits binary32 (product ts))
-product-fits ts = fold-fits one32 ts (of_bits-fits binary32 0x3f800000)
+product-fits ts = fold_fits one32 ts (of_bits-fits binary32 0x3f800000)
 
-clamp-fits : (p : Float) → T (fits binary32 p) → T (fits binary32 (clampUnit p))
-unfolding clampUnit
+clamp-fits : (p : Float) → T (fits binary32 p) → T (fits binary32 (clamp_unit p))
+unfolding clamp_unit
 clamp-fits p f =
     let one = of_bits-fits binary32 0x3f800000 in
     cond-fits binary32 (lt p (neg one32)) (neg one32) (cond (lt one32 p) one32 p) (neg-fits binary32 one32 one) (cond-fits binary32 (lt one32 p) one32 p one f)
@@ -240,8 +240,8 @@ ones-nonzero : (eq (neg one32) zero32 ≡ false) × (eq one32 zero32 ≡ false)
 unfolding eq neg of_bits
 ones-nonzero = (refl, refl)
 
-clamp-nonzero : (p : Float) → eq p zero32 ≡ false → eq (clampUnit p) zero32 ≡ false
-unfolding clampUnit
+clamp-nonzero : (p : Float) → eq p zero32 ≡ false → eq (clamp_unit p) zero32 ≡ false
+unfolding clamp_unit
 clamp-nonzero p z = go (lt p (neg one32)) (lt one32 p)
   where
     go : (a b : Bool) → eq (cond a (neg one32) (cond b one32 p)) zero32 ≡ false
@@ -250,54 +250,54 @@ clamp-nonzero p z = go (lt p (neg one32)) (lt one32 p)
     go false false = z
 
 -- the answer has the product's sign, and at (174,91)'s rule the other one
-clamped-sign : (p : Float) → T (fits binary32 p) → Nonzero p → negative (clampedAnswer p) ≡ negative p
+clamped-sign : (p : Float) → T (fits binary32 p) → Nonzero p → negative (clamped_answer p) ≡ negative p
 clamped-sign p f h =
     let g = nonzero-signed p h in
     let c = unit-near (clamp-kept g) in
-    signed-compared (part-signed (clamped-kept g))
-    (twice-nonzero is-two (atanh (clampUnit p)) (atanh-fits (clampUnit p)) (atanh-nonzero c (clamp-fits p f) (clamp-nonzero p h.nonzero)) (atanh-kept c))
+    signed_compared (part_signed (clamped-kept g))
+    (twice_nonzero is_two (atanh (clamp_unit p)) (atanh-fits (clamp_unit p)) (atanh-nonzero c (clamp-fits p f) (clamp-nonzero p h.nonzero)) (atanh-kept c))
 
-near-pole : {s : Bool} {x : Float} → Signed s x → lt x (neg nearPole) ≡ false → lt nearPole x ≡ false → Near s x
+near-pole : {s : Bool} {x : Float} → Signed s x → lt x (neg near_pole) ≡ false → lt near_pole x ≡ false → Near s x
 unfolding lt neg of_bits
 near-pole (infinite {s = true}) h g = absurd (true≢false h)
 near-pole (infinite {s = false}) h g = absurd (true≢false g)
 near-pole (finite {s = true} {m = m} {e = e}) h g = near (ltb-false (17 * down e) (m * up e * 16) h)
 near-pole (finite {s = false} {m = m} {e = e}) h g = near (ltb-false (17 * down e) (m * up e * 16) g)
 
-negated-sign-of : (q : Float) → T (fits binary32 q) → Nonzero q → BelowPole q → negative (negatedAnswer q) ≡ not (negative q)
+negated-sign-of : (q : Float) → T (fits binary32 q) → Nonzero q → BelowPole q → negative (negated_answer q) ≡ not (negative q)
 negated-sign-of q f h u =
     let c = near-pole (nonzero-signed q h) u.from u.to in
-    signed-compared (part-signed (negated-kept c)) (twice-nonzero is-minus-two (atanh q) (atanh-fits q) (atanh-nonzero c f h.nonzero) (atanh-kept c))
+    signed_compared (part_signed (negated-kept c)) (twice_nonzero is-minus-two (atanh q) (atanh-fits q) (atanh-nonzero c f h.nonzero) (atanh-kept c))
 
 -- ---- the laws
 
-worded : (ms : List Float) → NoneNan ms → length ms ≤ 25 → eq (productOf ms) zero32 ≡ false → negative (productOf ms) ≡ oddNegatives ms
-worded ms ps l z = product-sign ms ps (record { number = product-number ms ps l; nonzero = z })
+worded : (ms : List Float) → NoneNan ms → length ms ≤ 25 → eq (product_of ms) zero32 ≡ false → negative (product_of ms) ≡ odd_negatives ms
+worded ms ps l z = product_sign ms ps (record { number = product-number ms ps l; nonzero = z })
 
 pub product-signs : (ms : List Float) → NoneNan ms → ProductSign ms
 product-signs ms ps = record {
   worded = worded ms ps;
-  sign = product-sign ms ps;
+  sign = product_sign ms ps;
   number = product-number ms ps;
-  answer = λ h. clamped-sign (productOf ms) (product-fits (map halfTanh ms)) h ∙ product-sign ms ps h;
+  answer = λ h. clamped-sign (product_of ms) (product-fits (map half_tanh ms)) h ∙ product_sign ms ps h;
 }
 
 pub negated-signs : (ms : List Float) → NoneNan ms → NegatedSign ms
 negated-signs ms ps = record {
-  sign = negated-sign ms ps;
+  sign = negated_sign ms ps;
   number = negated-number ms ps;
-  low = below-pole ms ps;
-  answer = λ h u. negated-sign-of (negatedProductOf ms) (product-fits (map negatedHalfTanh ms)) h u ∙ ap not (negated-sign ms ps h);
+  low = below_pole ms ps;
+  answer = λ h u. negated-sign-of (negated_product_of ms) (product-fits (map negated_half_tanh ms)) h u ∙ ap not (negated_sign ms ps h);
 }
 
 -- a check of up to seven entries
-few-signs : (ms : List Float) → length ms ≤ 6 → NoneNan ms → eq (negatedProductOf ms) zero32 ≡ false
-    → negative (ft8Answer ms) ≡ not (unlike (oddNegatives ms) (oddLength ms))
+few-signs : (ms : List Float) → length ms ≤ 6 → NoneNan ms → eq (negated_product_of ms) zero32 ≡ false
+    → negative (ft8_answer ms) ≡ not (unlike (odd_negatives ms) (odd_length ms))
 few-signs ms h ps z =
     let signs = negated-signs ms ps in
     signs.answer (record { number = signs.number (omega arith); nonzero = z }) (signs.low h)
 
-odd-of-length : (ms : List Float) (n : ℕ) → length ms ≡ n → oddLength ms ≡ oddLength (replicate n zero32)
+odd-of-length : (ms : List Float) (n : ℕ) → length ms ≡ n → odd_length ms ≡ odd_length (replicate n zero32)
 unfolding oddly
 odd-of-length [] zero h = refl
 odd-of-length [] (suc n) h = absurd (omega arith)
@@ -313,10 +313,10 @@ unfolding oddly
 ft8-signs = record {
   sixes = agreed.sixes;
   right =
-      λ ms l ps z. few-signs ms (omega arith) ps z ∙ ap (λ (b : Bool). not (unlike (oddNegatives ms) b)) (odd-of-length ms 5 l) ∙ twice-turned
-      (oddNegatives ms);
+      λ ms l ps z. few-signs ms (omega arith) ps z ∙ ap (λ (b : Bool). not (unlike (odd_negatives ms) b)) (odd-of-length ms 5 l) ∙ twice-turned
+      (odd_negatives ms);
   sevens = agreed.sevens;
   opposite =
-      λ ms l ps z. few-signs ms (omega arith) ps z ∙ ap (λ (b : Bool). not (unlike (oddNegatives ms) b)) (odd-of-length ms 6 l) ∙ ap not
-      (unlike-false (oddNegatives ms));
+      λ ms l ps z. few-signs ms (omega arith) ps z ∙ ap (λ (b : Bool). not (unlike (odd_negatives ms) b)) (odd-of-length ms 6 l) ∙ ap not
+      (unlike-false (odd_negatives ms));
 }

@@ -20,16 +20,16 @@ use Rattle.signs.proofs.Rounded.{Signed, infinite, finite, Held, Part, part, rou
 
 -- ---- signs
 
-or-nan : (u b : Bool) → is_nan (cond b nan (inf u)) ≡ false → Signed u (cond b nan (inf u))
+or_nan : (u b : Bool) → is_nan (cond b nan (inf u)) ≡ false → Signed u (cond b nan (inf u))
 unfolding is_nan
-or-nan u true h = absurd (true≢false h)
-or-nan u false h = infinite
+or_nan u true h = absurd (true≢false h)
+or_nan u false h = infinite
 
 pub mul-signed : {s t : Bool} {x y : Float} → Signed s x → Signed t y → is_nan (x ⊗ y) ≡ false → Signed (unlike s t) (x ⊗ y)
 unfolding mul
 mul-signed infinite infinite h = infinite
-mul-signed (infinite {s = s}) (finite {s = t} {m = n} {e = d}) h = or-nan (unlike s t) (eqb n 0) h
-mul-signed (finite {s = s} {m = m} {e = e}) (infinite {s = t}) h = or-nan (unlike s t) (eqb m 0) h
+mul-signed (infinite {s = s}) (finite {s = t} {m = n} {e = d}) h = or_nan (unlike s t) (eqb n 0) h
+mul-signed (finite {s = s} {m = m} {e = e}) (infinite {s = t}) h = or_nan (unlike s t) (eqb m 0) h
 mul-signed (finite {s = s} {m = m} {e = e}) (finite {s = t} {m = n} {e = d}) h = round-signed (unlike s t) (m * up e * (n * up d)) (down e * down d)
 
 -- ---- bounds
@@ -38,18 +38,18 @@ mul-signed (finite {s = s} {m = m} {e = e}) (finite {s = t} {m = n} {e = d}) h =
 pub held : (k : ℕ) → T (leb k 16777216) → Held k
 held k t = round_whole binary32 false k (leb→le k 16777216 t)
 
-pub part-number : {s : Bool} {j k : ℕ} {x : Float} → Part s j k x → is_nan x ≡ false
+pub part_number : {s : Bool} {j k : ℕ} {x : Float} → Part s j k x → is_nan x ≡ false
 unfolding is_nan
-part-number (part lo hi) = refl
+part_number (part lo hi) = refl
 
 -- a wider bound
 pub part_in : {s : Bool} {i j : ℕ} {x : Float} (k l : ℕ) → k ≤ i → j ≤ l → Part s i j x → Part s k l x
 part_in k l p q (part {m = m} {e = e} lo hi) = part (le_trans (mul-le-mul_right (down e) p) lo) (le_trans hi (mul-le-mul_right (down e) q))
 
-pub mul-part : (i j k l : ℕ) → Held (i * k) → Held (j * l) → {s t : Bool} {x y : Float} → Part s i j x → Part t k l y
+pub mul_part : (i j k l : ℕ) → Held (i * k) → Held (j * l) → {s t : Bool} {x y : Float} → Part s i j x → Part t k l y
     → Part (unlike s t) (i * k) (j * l) (x ⊗ y)
 unfolding mul
-mul-part i j k l p q {s} {t} (part {m = m} {e = e} lo hi) (part {m = n} {e = d} lo' hi') =
+mul_part i j k l p q {s} {t} (part {m = m} {e = e} lo hi) (part {m = n} {e = d} lo' hi') =
     round-part (i * k) (j * l) (m * up e * (n * up d)) (down e * down d) p q (mul-pos (down_pos e) (down_pos d))
     (le_trans (le_of_eq (mul-mul-mul_comm i k (down e) (down d))) (mul-le-mul lo lo'))
     (le_trans (mul-le-mul hi hi') (le_of_eq (mul-mul-mul_comm j (down e) l (down d)))) (unlike s t)
@@ -69,9 +69,9 @@ module _ (j k e d a : ℕ) (lo : j * e ≤ a) (hi : a ≤ k * e) where
   right-high = rw (mul_comm d e) left-high
 
 -- a sum of two with one sign
-pub add-part : (i j k l : ℕ) → Held (i + k) → Held (j + l) → {x y : Float} → Part false i j x → Part false k l y → Part false (i + k) (j + l) (x ⊕ y)
+pub add_part : (i j k l : ℕ) → Held (i + k) → Held (j + l) → {x y : Float} → Part false i j x → Part false k l y → Part false (i + k) (j + l) (x ⊕ y)
 unfolding add sum
-add-part i j k l p q (part {m = m} {e = e} lo hi) (part {m = n} {e = d} lo' hi') =
+add_part i j k l p q (part {m = m} {e = e} lo hi) (part {m = n} {e = d} lo' hi') =
     let a = left-low i j (down e) (down d) (m * up e) lo hi in
     let b = left-high i j (down e) (down d) (m * up e) lo hi in
     let a' = right-low k l (down d) (down e) (n * up d) lo' hi' in
@@ -94,10 +94,10 @@ unfolding sum
 different v w true a b c right left done = rw (right, left) (done true)
 different v w false a b c right left done = rw right (done false)
 
-pub less-part : (i j k l v w : ℕ) → Held v → Held w → v + l ≤ i → j ≤ w + k → 0 < v → {x y : Float} → (s : Bool) → Part s i j x → Part (not s) k l y
+pub less_part : (i j k l v w : ℕ) → Held v → Held w → v + l ≤ i → j ≤ w + k → 0 < v → {x y : Float} → (s : Bool) → Part s i j x → Part (not s) k l y
     → Part s v w (x ⊕ y)
 unfolding add sum
-less-part i j k l v w p q f g z s (part {m = m} {e = e} lo hi) (part {m = n} {e = d} lo' hi') =
+less_part i j k l v w p q f g z s (part {m = m} {e = e} lo hi) (part {m = n} {e = d} lo' hi') =
     let a = m * up e * down d in
     let b = n * up d * down e in
     let c = down e * down d in
@@ -125,9 +125,9 @@ no_zero n u p z =
     omega (arith, zero-mul u)
 
 -- what is at most j in size over what is k or more
-pub div-part : (j k l w : ℕ) → Held w → 0 < k → j ≤ w * k → {i : ℕ} {s t : Bool} {x y : Float} → Part s i j x → Part t k l y → Part (unlike s t) 0 w (x ⊘ y)
+pub div_part : (j k l w : ℕ) → Held w → 0 < k → j ≤ w * k → {i : ℕ} {s t : Bool} {x y : Float} → Part s i j x → Part t k l y → Part (unlike s t) 0 w (x ⊘ y)
 unfolding div
-div-part j k l w q p b {i} {s} {t} (part {m = m} {e = e} lo hi) (part {m = n} {e = d} lo' hi') =
+div_part j k l w q p b {i} {s} {t} (part {m = m} {e = e} lo hi) (part {m = n} {e = d} lo' hi') =
     let some = filled k n (up d) (down d) p (down_pos d) lo' in
     rw (ne_eqb n 0 (no_zero n (up d) some))
     (round-part 0 w (m * up e * down d) (n * up d * down e) (held 0 tt) q (mul-pos some (down_pos e)) (omega (arith, zero-mul (n * up d * down e)))
@@ -143,13 +143,13 @@ pub true-unlike : (s : Bool) → unlike true s ≡ not s
 true-unlike true = refl
 true-unlike false = refl
 
-pub unlike-self : (s : Bool) → unlike s s ≡ false
-unlike-self true = refl
-unlike-self false = refl
+pub unlike_self : (s : Bool) → unlike s s ≡ false
+unlike_self true = refl
+unlike_self false = refl
 
 -- the sign of a part, rewritten
-pub sign-as : {s t : Bool} {j k : ℕ} {x : Float} → s ≡ t → Part s j k x → Part t j k x
-sign-as {j = j} {k = k} {x = x} h p = subst (λ (u : Bool). Part u j k x) h p
+pub sign_as : {s t : Bool} {j k : ℕ} {x : Float} → s ≡ t → Part s j k x → Part t j k x
+sign_as {j = j} {k = k} {x = x} h p = subst (λ (u : Bool). Part u j k x) h p
 
 -- finite, and at most k in size; a zero of either sign
 pub data Bounded (k : ℕ) (x : Float) : Type 0 where
@@ -158,41 +158,41 @@ pub data Bounded (k : ℕ) (x : Float) : Type 0 where
 abbrev pub Zero : Float → Type 0
 Zero x = Bounded 0 x
 
-pub bounded-in : {j : ℕ} {x : Float} (k : ℕ) → j ≤ k → Bounded j x → Bounded k x
-bounded-in k h (bounded p) = bounded (part_in 0 k (lit≤ tt) h p)
+pub bounded_in : {j : ℕ} {x : Float} (k : ℕ) → j ≤ k → Bounded j x → Bounded k x
+bounded_in k h (bounded p) = bounded (part_in 0 k (lit≤ tt) h p)
 
-pub bounded-number : {k : ℕ} {x : Float} → Bounded k x → is_nan x ≡ false
-bounded-number (bounded p) = part-number p
+pub bounded_number : {k : ℕ} {x : Float} → Bounded k x → is_nan x ≡ false
+bounded_number (bounded p) = part_number p
 
-pub mul-bounded : (j k : ℕ) → Held (j * k) → {x y : Float} → Bounded j x → Bounded k y → Bounded (j * k) (x ⊗ y)
-mul-bounded j k h (bounded p) (bounded q) = bounded (mul-part 0 j 0 k (held 0 tt) h p q)
+pub mul_bounded : (j k : ℕ) → Held (j * k) → {x y : Float} → Bounded j x → Bounded k y → Bounded (j * k) (x ⊗ y)
+mul_bounded j k h (bounded p) (bounded q) = bounded (mul_part 0 j 0 k (held 0 tt) h p q)
 
 pub zero-times : (k : ℕ) {x y : Float} → Zero x → Bounded k y → Zero (x ⊗ y)
-zero-times k {x} {y} h g = subst (λ (z : ℕ). Bounded z (x ⊗ y)) (zero-mul k) (mul-bounded 0 k (rw (zero-mul k) (held 0 tt)) h g)
+zero-times k {x} {y} h g = subst (λ (z : ℕ). Bounded z (x ⊗ y)) (zero-mul k) (mul_bounded 0 k (rw (zero-mul k) (held 0 tt)) h g)
 
 pub times_zero : (k : ℕ) {x y : Float} → Bounded k x → Zero y → Zero (x ⊗ y)
-times_zero k {x} {y} h g = subst (λ (z : ℕ). Bounded z (x ⊗ y)) (mul-zero k) (mul-bounded k 0 (rw (mul-zero k) (held 0 tt)) h g)
+times_zero k {x} {y} h g = subst (λ (z : ℕ). Bounded z (x ⊗ y)) (mul-zero k) (mul_bounded k 0 (rw (mul-zero k) (held 0 tt)) h g)
 
 -- the powers of two that f32 holds
-pub held-power : (k : ℕ) → k ≤ 127 → Held (2 ^ k)
-held-power k h =
+pub held_power : (k : ℕ) → k ≤ 127 → Held (2 ^ k)
+held_power k h =
     round_exact binary32 false (2 ^ k) 1 1 (k + 149) (lit< tt) (lit< tt) (rw (one-mul (2 ^ (k + 149))) (pow-lt {i = k + 149} {j = 277} (omega arith)))
     (rw (one-mul (2 ^ (k + 149)), mul-one (2 ^ (k + 149))) (sym (pow-add 2 k 149)))
 
 -- ---- comparisons with a value c that is not negative, and with its negative
 
-pub below-edge : {i k : ℕ} {c : Float} {s : Bool} {x : Float} → Part false i k c → Signed s x → lt x (neg c) ≡ true → s ≡ true
+pub below_edge : {i k : ℕ} {c : Float} {s : Bool} {x : Float} → Part false i k c → Signed s x → lt x (neg c) ≡ true → s ≡ true
 unfolding lt neg
-below-edge (part lo hi) infinite h = h
-below-edge (part lo hi) (finite {s = true}) h = refl
-below-edge (part lo hi) (finite {s = false}) h = h
+below_edge (part lo hi) infinite h = h
+below_edge (part lo hi) (finite {s = true}) h = refl
+below_edge (part lo hi) (finite {s = false}) h = h
 
-pub above-edge : {i k : ℕ} {c : Float} {s : Bool} {x : Float} → Part false i k c → Signed s x → lt c x ≡ true → s ≡ false
+pub above_edge : {i k : ℕ} {c : Float} {s : Bool} {x : Float} → Part false i k c → Signed s x → lt c x ≡ true → s ≡ false
 unfolding lt
-above-edge (part lo hi) (infinite {s = true}) h = sym h
-above-edge (part lo hi) (infinite {s = false}) h = refl
-above-edge (part lo hi) (finite {s = true}) h = sym h
-above-edge (part lo hi) (finite {s = false}) h = refl
+above_edge (part lo hi) (infinite {s = true}) h = sym h
+above_edge (part lo hi) (infinite {s = false}) h = refl
+above_edge (part lo hi) (finite {s = true}) h = sym h
+above_edge (part lo hi) (finite {s = false}) h = refl
 
 no_size : (m : ℕ) (e : ℤ) → m * up e ≤ 0 * down e → m * up e ≡ 0
 no_size m e h = omega (arith, zero-mul (down e))
@@ -204,20 +204,20 @@ edged s k m n e d hi h =
     let hi'' : m * up e ≤ k * down e = omega arith in
     part lo' hi''
 
-pub between-edges : {i k : ℕ} {c : Float} {s : Bool} {x : Float} → Part false i k c → Signed s x → lt x (neg c) ≡ false → lt c x ≡ false → Part s 0 k x
+pub between_edges : {i k : ℕ} {c : Float} {s : Bool} {x : Float} → Part false i k c → Signed s x → lt x (neg c) ≡ false → lt c x ≡ false → Part s 0 k x
 unfolding lt neg
-between-edges (part lo hi) (infinite {s = true}) h g = absurd (true≢false h)
-between-edges (part lo hi) (infinite {s = false}) h g = absurd (true≢false g)
-between-edges {k = k} (part {m = n} {e = d} lo hi) (finite {s = true} {m = m} {e = e}) h g =
+between_edges (part lo hi) (infinite {s = true}) h g = absurd (true≢false h)
+between_edges (part lo hi) (infinite {s = false}) h g = absurd (true≢false g)
+between_edges {k = k} (part {m = n} {e = d} lo hi) (finite {s = true} {m = m} {e = e}) h g =
     edged true k m n e d hi (ltb-false (n * up d * down e) (m * up e * down d) h)
-between-edges {k = k} (part {m = n} {e = d} lo hi) (finite {s = false} {m = m} {e = e}) h g =
+between_edges {k = k} (part {m = n} {e = d} lo hi) (finite {s = false} {m = m} {e = e}) h g =
     edged false k m n e d hi (ltb-false (n * up d * down e) (m * up e * down d) g)
 
-pub zero-not-below : {i k : ℕ} {c : Float} {s : Bool} {x : Float} → Part false i k c → Part s 0 0 x → lt x (neg c) ≡ false
+pub zero-not_below : {i k : ℕ} {c : Float} {s : Bool} {x : Float} → Part false i k c → Part s 0 0 x → lt x (neg c) ≡ false
 unfolding lt neg
-zero-not-below {s = true} (part {m = n} {e = d} lo' hi') (part {m = m} {e = e} lo hi) =
+zero-not_below {s = true} (part {m = n} {e = d} lo' hi') (part {m = m} {e = e} lo hi) =
     le-ltb (n * up d * down e) (m * up e * down d) (rw (no_size m e hi, zero-mul (down d)) (omega arith))
-zero-not-below {s = false} (part lo' hi') (part lo hi) = refl
+zero-not_below {s = false} (part lo' hi') (part lo hi) = refl
 
 pub zero-not-above : {i k : ℕ} {c : Float} {s : Bool} {x : Float} → Part false i k c → Part s 0 0 x → lt c x ≡ false
 unfolding lt

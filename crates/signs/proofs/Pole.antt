@@ -15,25 +15,25 @@ use lib.IntN.{ℤ, negsuc}
 use lib.ListN.{length, replicate, length-map}
 use lib.Ieee.{Float, nan, inf, fin, binary32, up, down, size, span, climb, odd, units, round, neg, add, sum, mul, div, lt, le, eq, is_nan, of_bits}
 use lib.Ieee.Fits.{and_l, and_r}
-use Rattle.softmath.specs.Single.{◌⊗◌, zero32, one32, foldFrom, product}
-use Rattle.softmath.specs.Functions.{tanh, tanhFraction}
-use Rattle.softmath.specs.CheckNode.{negatedHalfTanh}
+use Rattle.softmath.specs.Single.{◌⊗◌, zero32, one32, fold_from, product}
+use Rattle.softmath.specs.Functions.{tanh, tanh_fraction}
+use Rattle.softmath.specs.CheckNode.{negated_half_tanh}
 use Rattle.code174.specs.Agreement.{each}
 use Rattle.code174.proofs.Tests.{each_at}
-use Rattle.signs.specs.Signs.{NoneNan, empty, more, nearPole, BelowPole}
-use Rattle.signs.proofs.Rounded.{Signed, infinite, finite, Part, part, part-signed}
-use Rattle.signs.proofs.Laws.{between-edges}
+use Rattle.signs.specs.Signs.{NoneNan, empty, more, near_pole, BelowPole}
+use Rattle.signs.proofs.Rounded.{Signed, infinite, finite, Part, part, part_signed}
+use Rattle.signs.proofs.Laws.{between_edges}
 use Rattle.signs.proofs.Products.{neg-kept}
-use Rattle.signs.proofs.Sizes.{Leq, leq, leq-refl, leq-trans, leq-of-le, mul-leq}
-use Rattle.signs.proofs.Tanh.{edge, is-edge, ratio, ratio-part, ratio-leq, half-kept}
+use Rattle.signs.proofs.Sizes.{Leq, leq, leq_refl, leq_trans, leq_of_le, mul_leq}
+use Rattle.signs.proofs.Tanh.{edge, is_edge, ratio, ratio-part, ratio_leq, half_kept}
 
 -- 1.0101
 abbrev most : Float
 most = of_bits binary32 0x3f814af5
 
-is-most : Part false 1 2 most
+is_most : Part false 1 2 most
 unfolding of_bits
-is-most = part (lit≤ tt) (lit≤ tt)
+is_most = part (lit≤ tt) (lit≤ tt)
 
 -- ---- the points
 
@@ -58,9 +58,9 @@ covered : ℕ → List ℕ → Bool
 covered k [] = lt edge (at k)
 covered k (w ∷ ws) = let more = covered (k + w) ws in leb (k + w) 1280 && (low k (k + w) && more)
 
-all-covered : T (covered 0 widths)
+all_covered : T (covered 0 widths)
 unfolding covered widths le lt eq of_bits mul div add sum round size span climb units odd
-all-covered = tt
+all_covered = tt
 
 -- a value between the point at k and the threshold lies between two points that follow each other
 module _ {s : Bool} {m : ℕ} {e : ℤ} (g : Part s 0 5 (fin s m e)) (end : Leq (fin s m e) edge) where
@@ -69,7 +69,7 @@ module _ {s : Bool} {m : ℕ} {e : ℤ} (g : Part s 0 5 (fin s m e)) (end : Leq 
 
   past : (k : ℕ) → T (lt edge (at k)) → Leq (at k) (fin s m e) → ⊥
   unfolding lt of_bits
-  past k t lo = over (leq-trans lo end)
+  past k t lo = over (leq_trans lo end)
     where
       over : Leq (at k) edge → ⊥
       over (leq h) = omega (arith, ltb→lt (10422845 * 1 * 256) (k * 1 * 2097152) t)
@@ -78,7 +78,7 @@ module _ {s : Bool} {m : ℕ} {e : ℤ} (g : Part s 0 5 (fin s m e)) (end : Leq 
   next k j h h' t lo hi =
       let p = at_part k h in
       let q = at_part j h' in
-      leq-trans (ratio-leq p g q lo hi) (leq-of-le (part-signed (ratio-part p q)) is-most t)
+      leq_trans (ratio_leq p g q lo hi) (leq_of_le (part_signed (ratio-part p q)) is_most t)
 
   search-from : (k : ℕ) (ws : List ℕ) → k ≤ 1280 → T (covered k ws) → Leq (at k) (fin s m e) → Leq fraction most
   unfolding covered
@@ -105,28 +105,28 @@ module _ {s : Bool} {m : ℕ} {e : ℤ} (g : Part s 0 5 (fin s m e)) (end : Leq 
 -- ---- the function
 
 -- at most the threshold in size
-not-past : {s : Bool} {x : Float} → Signed s x → lt x (neg edge) ≡ false → lt edge x ≡ false → Leq x edge
+not_past : {s : Bool} {x : Float} → Signed s x → lt x (neg edge) ≡ false → lt edge x ≡ false → Leq x edge
 unfolding lt neg of_bits
-not-past (infinite {s = true}) h g = absurd (true≢false h)
-not-past (infinite {s = false}) h g = absurd (true≢false g)
-not-past (finite {s = true} {m = m} {e = e}) h g = leq (ltb-false (10422845 * 1 * down e) (m * up e * 2097152) h)
-not-past (finite {s = false} {m = m} {e = e}) h g = leq (ltb-false (10422845 * 1 * down e) (m * up e * 2097152) g)
+not_past (infinite {s = true}) h g = absurd (true≢false h)
+not_past (infinite {s = false}) h g = absurd (true≢false g)
+not_past (finite {s = true} {m = m} {e = e}) h g = leq (ltb-false (10422845 * 1 * down e) (m * up e * 2097152) h)
+not_past (finite {s = false} {m = m} {e = e}) h g = leq (ltb-false (10422845 * 1 * down e) (m * up e * 2097152) g)
 
-fraction-most : {s : Bool} {x : Float} → Part s 0 5 x → Leq x edge → Leq (tanhFraction x (x ⊗ x)) most
-fraction-most (part {m = m} {e = e} lo hi) h = search-from (part lo hi) h 0 widths (lit≤ tt) all-covered (leq (omega (arith, zero-mul (down e))))
+fraction_most : {s : Bool} {x : Float} → Part s 0 5 x → Leq x edge → Leq (tanh_fraction x (x ⊗ x)) most
+fraction_most (part {m = m} {e = e} lo hi) h = search-from (part lo hi) h 0 widths (lit≤ tt) all_covered (leq (omega (arith, zero-mul (down e))))
 
-ones-most : Leq (neg one32) most × Leq one32 most
+ones_most : Leq (neg one32) most × Leq one32 most
 unfolding neg of_bits
-ones-most = (leq (lit≤ tt), leq (lit≤ tt))
+ones_most = (leq (lit≤ tt), leq (lit≤ tt))
 
-pub tanh-most : {s : Bool} {x : Float} → Signed s x → Leq (tanh x) most
+pub tanh_most : {s : Bool} {x : Float} → Signed s x → Leq (tanh x) most
 unfolding tanh
-tanh-most {s} {x} g = go (lt x (neg edge)) (lt edge x) refl refl
+tanh_most {s} {x} g = go (lt x (neg edge)) (lt edge x) refl refl
   where
-    go : (a b : Bool) → lt x (neg edge) ≡ a → lt edge x ≡ b → Leq (cond a (neg one32) (cond b one32 (tanhFraction x (x ⊗ x)))) most
-    go true b p q = ones-most.0
-    go false true p q = ones-most.1
-    go false false p q = fraction-most (between-edges is-edge g p q) (not-past g p q)
+    go : (a b : Bool) → lt x (neg edge) ≡ a → lt edge x ≡ b → Leq (cond a (neg one32) (cond b one32 (tanh_fraction x (x ⊗ x)))) most
+    go true b p q = ones_most.0
+    go false true p q = ones_most.1
+    go false false p q = fraction_most (between_edges is_edge g p q) (not_past g p q)
 
 -- ---- the product
 
@@ -141,19 +141,19 @@ power (suc n) = power n ⊗ most
 
 -- between 0.0 and 1.0625
 inside : Float → Bool
-inside x = lt zero32 x && lt x nearPole
+inside x = lt zero32 x && lt x near_pole
 
 pub record Inside (x : Float) : Type 0 where
   pub number : Part false 0 2 x
-  pub low : Leq x nearPole
+  pub low : Leq x near_pole
 
-inside-said : (x : Float) → inside x ≡ true → Inside x
+inside_said : (x : Float) → inside x ≡ true → Inside x
 unfolding inside lt of_bits
-inside-said nan h = absurd (true≢false (sym h))
-inside-said (inf true) h = absurd (true≢false (sym h))
-inside-said (inf false) h = absurd (true≢false (sym h))
-inside-said (fin true m e) h = absurd (true≢false (sym h))
-inside-said (fin false m e) h =
+inside_said nan h = absurd (true≢false (sym h))
+inside_said (inf true) h = absurd (true≢false (sym h))
+inside_said (inf false) h = absurd (true≢false (sym h))
+inside_said (fin true m e) h = absurd (true≢false (sym h))
+inside_said (fin false m e) h =
     let l = ltb-true (m * up e * 16) (17 * 1 * down e) (and_elim_right (ltb (0 * down e) (m * up e * 1)) (ltb (m * up e * 16) (17 * 1 * down e)) h) in
     let lo : 0 * down e ≤ m * up e = omega (arith, zero-mul (down e)) in
     let hi : m * up e ≤ 2 * down e = omega arith in
@@ -161,42 +161,42 @@ inside-said (fin false m e) h =
     record { number = part lo hi; low = leq under }
 
 -- up to six of them lie there
-powers-inside : each 7 (λ n. inside (power n)) ≡ true
+powers_inside : each 7 (λ n. inside (power n)) ≡ true
 unfolding each inside power mul round size span climb units odd lt of_bits
-powers-inside = refl
+powers_inside = refl
 
-power-inside : (n : ℕ) → n ≤ 6 → Inside (power n)
-power-inside n h = inside-said (power n) (each_at 7 (λ n. inside (power n)) powers-inside n (omega arith))
+power_inside : (n : ℕ) → n ≤ 6 → Inside (power n)
+power_inside n h = inside_said (power n) (each_at 7 (λ n. inside (power n)) powers_inside n (omega arith))
 
 -- factors of at most 1.0101: with k of them passed and those that follow there are at most six
-factors-low : (k : ℕ) (a : Float) (ts : List Float) → k + length ts ≤ 6 → AllLow ts → Leq a (power k) → Leq (foldFrom ◌⊗◌ a ts) nearPole
-unfolding foldFrom power
-factors-low k a [] h none g = leq-trans g (power-inside k (omega arith)).low
-factors-low k a (t ∷ ts) h (some l ls) g =
-    factors-low (suc k) (a ⊗ t) ts (omega (arith, add-one k)) ls
-    (mul-leq (power-inside k (omega arith)).number is-most (power-inside (suc k) (omega (arith, add-one k))).number g l)
+factors_low : (k : ℕ) (a : Float) (ts : List Float) → k + length ts ≤ 6 → AllLow ts → Leq a (power k) → Leq (fold_from ◌⊗◌ a ts) near_pole
+unfolding fold_from power
+factors_low k a [] h none g = leq_trans g (power_inside k (omega arith)).low
+factors_low k a (t ∷ ts) h (some l ls) g =
+    factors_low (suc k) (a ⊗ t) ts (omega (arith, add-one k)) ls
+    (mul_leq (power_inside k (omega arith)).number is_most (power_inside (suc k) (omega (arith, add-one k))).number g l)
 
 -- ---- the messages of a check's other positions
 
-negated-most : (m : Float) → is_nan m ≡ false → Leq (negatedHalfTanh m) most
+negated_most : (m : Float) → is_nan m ≡ false → Leq (negated_half_tanh m) most
 unfolding is_nan
-negated-most nan h = absurd (true≢false h)
-negated-most (inf s) h = tanh-most (half-kept (neg-kept infinite))
-negated-most (fin s m e) h = tanh-most (half-kept (neg-kept finite))
+negated_most nan h = absurd (true≢false h)
+negated_most (inf s) h = tanh_most (half_kept (neg-kept infinite))
+negated_most (fin s m e) h = tanh_most (half_kept (neg-kept finite))
 
-all-low : {ms : List Float} → NoneNan ms → AllLow (map negatedHalfTanh ms)
+all-low : {ms : List Float} → NoneNan ms → AllLow (map negated_half_tanh ms)
 all-low empty = none
-all-low (more {m = m} h hs) = some (negated-most m h) (all-low hs)
+all-low (more {m = m} h hs) = some (negated_most m h) (all-low hs)
 
-no-larger : {x : Float} → Leq x nearPole → BelowPole x
+no_larger : {x : Float} → Leq x near_pole → BelowPole x
 unfolding lt neg of_bits
-no-larger (leq {s = true} {m = m} {e = e} h) = record { from = le-ltb (17 * 1 * down e) (m * up e * 16) h; to = refl }
-no-larger (leq {s = false} {m = m} {e = e} h) = record { from = refl; to = le-ltb (17 * 1 * down e) (m * up e * 16) h }
+no_larger (leq {s = true} {m = m} {e = e} h) = record { from = le-ltb (17 * 1 * down e) (m * up e * 16) h; to = refl }
+no_larger (leq {s = false} {m = m} {e = e} h) = record { from = refl; to = le-ltb (17 * 1 * down e) (m * up e * 16) h }
 
 one : Part false 1 1 one32
 unfolding of_bits
 one = part (lit≤ tt) (lit≤ tt)
 
-pub below-pole : (ms : List Float) → NoneNan ms → length ms ≤ 6 → BelowPole (product (map negatedHalfTanh ms))
+pub below_pole : (ms : List Float) → NoneNan ms → length ms ≤ 6 → BelowPole (product (map negated_half_tanh ms))
 unfolding power
-below-pole ms ps h = no-larger (factors-low 0 one32 (map negatedHalfTanh ms) (rw length-map (omega arith)) (all-low ps) (leq-refl one))
+below_pole ms ps h = no_larger (factors_low 0 one32 (map negated_half_tanh ms) (rw length-map (omega arith)) (all-low ps) (leq_refl one))

@@ -63,44 +63,44 @@ Held k = HasValue (round binary32 false k 1) false k 1
 pub data Part (s : Bool) (j k : ℕ) : Float → Type 0 where
   part : {m : ℕ} {e : ℤ} → j * down e ≤ m * up e → m * up e ≤ k * down e → Part s j k (fin s m e)
 
-pub part-signed : {s : Bool} {j k : ℕ} {x : Float} → Part s j k x → Signed s x
-part-signed (part lo hi) = finite
+pub part_signed : {s : Bool} {j k : ℕ} {x : Float} → Part s j k x → Signed s x
+part_signed (part lo hi) = finite
 
-pub or-le : (a b : ℕ) → T (ltb a b || (eqb a b && true)) → a ≤ b
-or-le a b t = go (ltb a b) (ltb→lt a b) t
+pub or_le : (a b : ℕ) → T (ltb a b || (eqb a b && true)) → a ≤ b
+or_le a b t = go (ltb a b) (ltb→lt a b) t
   where
     go : (x : Bool) → (T x → a < b) → T (x || (eqb a b && true)) → a ≤ b
     go true f t = let l = f tt in omega arith
     go false f t = le_of_eq (eqb→eq a b (and_l (eqb a b) true t))
 
 -- between two floats that are j and k
-between-held : (j k : ℕ) (x y z : Float) → Signed false y → HasValue x false j 1 → HasValue z false k 1 → T (le x y) → T (le y z) → Part false j k y
+between_held : (j k : ℕ) (x y z : Float) → Signed false y → HasValue x false j 1 → HasValue z false k 1 → T (le x y) → T (le y z) → Part false j k y
 unfolding le
-between-held j k nan y z g h i t u = absurd h
-between-held j k (inf w) y z g h i t u = absurd h
-between-held j k (fin true l c) y z g h i t u = absurd (true≢false h.0)
-between-held j k (fin false l c) y nan g h i t u = absurd i
-between-held j k (fin false l c) y (inf w) g h i t u = absurd i
-between-held j k (fin false l c) y (fin true n d) g h i t u = absurd (true≢false i.0)
-between-held j k (fin false l c) (inf false) (fin false n d) infinite h i t u = absurd u
-between-held j k (fin false l c) (fin false m e) (fin false n d) finite h i t u =
-    let lo : j * down e ≤ m * up e * 1 = through j (l * up c) (m * up e) 1 (down c) (down e) (down_pos c) (le_of_eq (sym h.1)) (or-le _ _ t) in
-    let hi : m * up e * 1 ≤ k * down e = through (m * up e) (n * up d) k (down e) (down d) 1 (down_pos d) (or-le _ _ u) (le_of_eq i.1) in
+between_held j k nan y z g h i t u = absurd h
+between_held j k (inf w) y z g h i t u = absurd h
+between_held j k (fin true l c) y z g h i t u = absurd (true≢false h.0)
+between_held j k (fin false l c) y nan g h i t u = absurd i
+between_held j k (fin false l c) y (inf w) g h i t u = absurd i
+between_held j k (fin false l c) y (fin true n d) g h i t u = absurd (true≢false i.0)
+between_held j k (fin false l c) (inf false) (fin false n d) infinite h i t u = absurd u
+between_held j k (fin false l c) (fin false m e) (fin false n d) finite h i t u =
+    let lo : j * down e ≤ m * up e * 1 = through j (l * up c) (m * up e) 1 (down c) (down e) (down_pos c) (le_of_eq (sym h.1)) (or_le _ _ t) in
+    let hi : m * up e * 1 ≤ k * down e = through (m * up e) (n * up d) k (down e) (down d) 1 (down_pos d) (or_le _ _ u) (le_of_eq i.1) in
     let lo' : j * down e ≤ m * up e = omega arith in
     let hi' : m * up e ≤ k * down e = omega arith in
     part lo' hi'
 
-neg-part : {j k : ℕ} {x : Float} → Part false j k x → Part true j k (neg x)
+neg_part : {j k : ℕ} {x : Float} → Part false j k x → Part true j k (neg x)
 unfolding neg
-neg-part (part lo hi) = part lo hi
+neg_part (part lo hi) = part lo hi
 
 module _ (j k a b : ℕ) (low_held : Held j) (high_held : Held k) (p : 0 < b) (lo : j * b ≤ a) (hi : a ≤ k * b) where
   plain-part : Part false j k (round binary32 false a b)
   plain-part =
-      between-held j k (round binary32 false j 1) (round binary32 false a b) (round binary32 false k 1) (round-signed false a b) low_held high_held
+      between_held j k (round binary32 false j 1) (round binary32 false a b) (round binary32 false k 1) (round-signed false a b) low_held high_held
       (round_mono binary32 j 1 a b (zero-lt-suc 0) p (omega arith)) (round_mono binary32 a b k 1 p (zero-lt-suc 0) (omega arith))
 
   -- a fraction from j to k, rounded
   pub round-part : (s : Bool) → Part s j k (round binary32 s a b)
   round-part false = plain-part
-  round-part true = subst (Part true j k) (sym (round-neg a b)) (neg-part plain-part)
+  round-part true = subst (Part true j k) (sym (round-neg a b)) (neg_part plain-part)

@@ -8,13 +8,13 @@ use borrow.Author.Tests.{ltb-true, ltb-false}
 use lib.Dec.{T, ltb}
 use lib.Ieee.{Float, nan, binary32, fits}
 use lib.ListN.{length, take, drop, get_or, set, drop_of_length-le}
-use Rattle.softmath.specs.CheckNode.{minSum}
+use Rattle.softmath.specs.CheckNode.{min_sum}
 use Rattle.lists.proofs.Loops.{read_more, each_more, each-done}
 use Rattle.slots.specs.Columns.{column, ColumnIs}
 use Rattle.slots.proofs.Columns.{column-length}
 use Rattle.slots.proofs.EachColumn.{entry_at, set_own}
 use Rattle.slot_minima.specs.declared.Seen.{Seen}
-use Rattle.slot_minima.specs.Minima.{Fit, none, more, fresh, noted, notedAll, answerTo}
+use Rattle.slot_minima.specs.Minima.{Fit, none, more, fresh, noted, noted_all, answer_to}
 use Rattle.slot_minima.proofs.Minima.{by-columns}
 
 -- every entry of a list is a float of 32 bits
@@ -27,7 +27,7 @@ module _ (m d c : ℕ) (w : List Float) where
 
   -- the messages so far are seen: with those that are left they make the whole, and each is a float of 32 bits
   pub record SeenTo (j : ℕ) (kept : Seen) : Type 0 where
-    pub whole : notedAll kept (drop j (column m d c w)) ≡ notedAll fresh (column m d c w)
+    pub whole : noted_all kept (drop j (column m d c w)) ≡ noted_all fresh (column m d c w)
     pub fit : (i : ℕ) → i < j → T (fits binary32 (get_or (column m d c w) i nan))
 
   pub seen_none : SeenTo 0 fresh
@@ -35,12 +35,12 @@ module _ (m d c : ℕ) (w : List Float) where
 
   pub seen_more : (j : ℕ) (kept next : Seen) → j < d → T (fits binary32 (get_or w (j * m + c) nan)) → next ≡ noted kept (get_or w (j * m + c) nan)
       → SeenTo j kept → SeenTo (j + 1) next
-  unfolding notedAll
+  unfolding noted_all
   seen_more j kept next h f e s =
       let inside : j < length (column m d c w) = rw (column-length m d c w) h in
       let own = entry_at m d c j (j * m + c) w h refl in
       record {
-        whole = read_more notedAll (λ (t : Seen) (v : Float) (vs : List Float). noted t v) (λ t v vs. refl) nan (column m d c w) _ j kept next inside
+        whole = read_more noted_all (λ (t : Seen) (v : Float) (vs : List Float). noted t v) (λ t v vs. refl) nan (column m d c w) _ j kept next inside
             (e ∙ ap (noted kept) (sym own)) s.whole;
         fit = λ i k. by i (ltb i j) refl (rw (sym own) at f) k;
       }
@@ -49,8 +49,8 @@ module _ (m d c : ℕ) (w : List Float) where
       by i true q g k = s.fit i (ltb-true i j q)
       by i false q g k = let same : i ≡ j = omega (arith, ltb-false i j q, k) in rw same g
 
-  pub seen_all : (j : ℕ) (kept : Seen) → d ≤ j → SeenTo j kept → (kept ≡ notedAll fresh (column m d c w)) × Fit (column m d c w)
-  unfolding notedAll
+  pub seen_all : (j : ℕ) (kept : Seen) → d ≤ j → SeenTo j kept → (kept ≡ noted_all fresh (column m d c w)) × Fit (column m d c w)
+  unfolding noted_all
   seen_all j kept h s =
       let size = column-length m d c w in
       let all : length (column m d c w) ≤ j = rw size h in
@@ -60,22 +60,22 @@ module _ (m d c : ℕ) (w : List Float) where
   -- ---- answered
 
   module _ (scale : Float) (kept : Seen) where
-    pub answered-more : (r : List Float) (j p : ℕ) (v : Float) → c < m → j < d → p ≡ j * m + c → p < length w → v ≡ answerTo scale kept (get_or w p nan)
-        → take j (column m d c w) ++ map (answerTo scale kept) (drop j (column m d c w)) ≡ r
-        → take (j + 1) (column m d c (set w p v)) ++ map (answerTo scale kept) (drop (j + 1) (column m d c (set w p v))) ≡ r
+    pub answered-more : (r : List Float) (j p : ℕ) (v : Float) → c < m → j < d → p ≡ j * m + c → p < length w → v ≡ answer_to scale kept (get_or w p nan)
+        → take j (column m d c w) ++ map (answer_to scale kept) (drop j (column m d c w)) ≡ r
+        → take (j + 1) (column m d c (set w p v)) ++ map (answer_to scale kept) (drop (j + 1) (column m d c (set w p v))) ≡ r
     answered-more r j p v h l e n q k =
         let inside : j < length (column m d c w) = rw (column-length m d c w) l in
         rw (set_own m d c j p v w h e l n)
-        (each_more (answerTo scale kept) nan (column m d c w) r j v inside (q ∙ ap (answerTo scale kept) (sym (entry_at m d c j p w l e))) k)
+        (each_more (answer_to scale kept) nan (column m d c w) r j v inside (q ∙ ap (answer_to scale kept) (sym (entry_at m d c j p w l e))) k)
 
-    pub answered-done : (r : List Float) (j : ℕ) → d ≤ j → take j (column m d c w) ++ map (answerTo scale kept) (drop j (column m d c w)) ≡ r
+    pub answered-done : (r : List Float) (j : ℕ) → d ≤ j → take j (column m d c w) ++ map (answer_to scale kept) (drop j (column m d c w)) ≡ r
         → column m d c w ≡ r
-    answered-done r j h k = each-done (answerTo scale kept) nan (column m d c w) r j (rw (column-length m d c w) h) k
+    answered-done r j h k = each-done (answer_to scale kept) nan (column m d c w) r j (rw (column-length m d c w) h) k
 
 -- ---- both: the answers are min-sum's
-pub seen-and-answered : (m d c : ℕ) (s t : Float) (kept : Seen) (w v : List Float) → s ≡ t → kept ≡ notedAll fresh (column m d c w) → Fit (column m d c w)
-    → ColumnIs m d c (map (answerTo s kept) (column m d c w)) w v → ColumnIs m d c (minSum t (column m d c w)) w v
-seen-and-answered m d c s t kept w v e k f i =
-    let answers : map (answerTo s kept) (column m d c w) ≡ minSum t (column m d c w) =
+pub seen_and_answered : (m d c : ℕ) (s t : Float) (kept : Seen) (w v : List Float) → s ≡ t → kept ≡ noted_all fresh (column m d c w) → Fit (column m d c w)
+    → ColumnIs m d c (map (answer_to s kept) (column m d c w)) w v → ColumnIs m d c (min_sum t (column m d c w)) w v
+seen_and_answered m d c s t kept w v e k f i =
+    let answers : map (answer_to s kept) (column m d c w) ≡ min_sum t (column m d c w) =
     rw (e, k) (by-columns t (column m d c w) f) in
     subst (λ (xs : List Float). ColumnIs m d c xs w v) answers i

@@ -3,9 +3,9 @@
 // are numbers that the compiler sees it takes a check's loops apart, and works on several checks at a time.
 ghost use Rattle.std.specs.Prelude.{◌≡◌, cond, map, ◌*◌, ◌<◌, length};
 ghost use Rattle.std.specs.Float.Ieee.{lt, eq};
-ghost use Rattle.softmath.specs.CheckNode.{minSum, factorOf};
+ghost use Rattle.softmath.specs.CheckNode.{min_sum, factor_of};
 ghost use Rattle.slots.specs.Columns.{column, AtColumns, ColumnIs};
-ghost use Rattle.slot_minima.specs.Minima.{fresh, noted, notedAll, answerTo, Fit};
+ghost use Rattle.slot_minima.specs.Minima.{fresh, noted, noted_all, answer_to, Fit};
 
 use softmath::DecodeRule;
 
@@ -53,7 +53,7 @@ fn note(kept: Seen, v: f32) -> Seen
 
 // The answer to a message of which all are seen: by the second magnitude where its own is the least.
 fn answer(scale: f32, kept: Seen, v: f32) -> f32
-    ensures { result ≡ answerTo scale kept v }
+    ensures { result ≡ answer_to scale kept v }
 {
     let a = softmath::magnitude(v);
     let t = softmath::turn_sign(v, kept.sign);
@@ -65,7 +65,7 @@ fn answer(scale: f32, kept: Seen, v: f32) -> f32
 // The messages of check c seen.
 fn see_column(m: usize, d: usize, c: usize, work: &[f32]) -> Seen
     requires { (length work.now ≡ d * m) × (c < m) }
-    ensures value { result ≡ notedAll fresh (column m d c work.now) }
+    ensures value { result ≡ noted_all fresh (column m d c work.now) }
     ensures fit { Fit (column m d c work.now) }
 {
     let mut kept = Seen {
@@ -84,7 +84,7 @@ fn see_column(m: usize, d: usize, c: usize, work: &[f32]) -> Seen
 // The messages of check c answered, in place.
 fn answer_column(scale: f32, kept: Seen, m: usize, d: usize, c: usize, work: &mut [f32])
     requires { (length work.old ≡ d * m) × (c < m) }
-    ensures { ColumnIs m d c (map (answerTo scale kept) (column m d c work.old)) work.old work.new }
+    ensures { ColumnIs m d c (map (answer_to scale kept) (column m d c work.old)) work.old work.new }
 {
     let mut j = 0;
     while j < d {
@@ -97,7 +97,7 @@ fn answer_column(scale: f32, kept: Seen, m: usize, d: usize, c: usize, work: &mu
 // Check c. The rule is matched at each check.
 fn min_sum_column(rule: DecodeRule, m: usize, d: usize, c: usize, work: &mut [f32])
     requires { (length work.old ≡ d * m) × (c < m) }
-    ensures { ColumnIs m d c (minSum (factorOf rule) (column m d c work.old)) work.old work.new }
+    ensures { ColumnIs m d c (min_sum (factor_of rule) (column m d c work.old)) work.old work.new }
 {
     let scale = softmath::factor_of(rule);
     let kept = see_column(m, d, c, work);
@@ -107,7 +107,7 @@ fn min_sum_column(rule: DecodeRule, m: usize, d: usize, c: usize, work: &mut [f3
 // Every check.
 fn min_sum_columns(rule: DecodeRule, m: usize, d: usize, work: &mut [f32])
     requires { length work.old ≡ d * m }
-    ensures { AtColumns (minSum (factorOf rule)) m d work.old work.new }
+    ensures { AtColumns (min_sum (factor_of rule)) m d work.old work.new }
 {
     let mut c = 0;
     while c < m {
@@ -119,7 +119,7 @@ fn min_sum_columns(rule: DecodeRule, m: usize, d: usize, work: &mut [f32])
 // The same with the sizes of the staircase codes as numbers that the compiler sees.
 pub fn min_sum_minima(rule: DecodeRule, m: usize, d: usize, work: &mut [f32])
     requires { length work.old ≡ d * m }
-    ensures { AtColumns (minSum (factorOf rule)) m d work.old work.new }
+    ensures { AtColumns (min_sum (factor_of rule)) m d work.old work.new }
 {
     if m == 256 && d == 5 {
         return min_sum_columns(rule, 256, 5, work);

@@ -6,8 +6,8 @@ use native.Mathlib.Omega.{arith}
 use lib.Ieee.{Float, nan}
 use lib.ListN.{length, take, get_or, set}
 use lib.Seq.{take_all}
-use Rattle.softmath.specs.CheckNode.{minSum}
-use Rattle.by_others.specs.Others.{othersAnswer, othersSum}
+use Rattle.softmath.specs.CheckNode.{min_sum}
+use Rattle.by_others.specs.Others.{others_answer, others_sum}
 use Rattle.softmath.proofs.Steps.{each-length}
 use Rattle.by_others.proofs.ByOthers.{same-answers}
 use Rattle.lists.proofs.Loops.{fill_more, fill_done}
@@ -23,13 +23,13 @@ taken_more m d c j w r h k t =
     let inside : j < length (column m d c w) = rw (column-length m d c w) h in
     fill_more (column m d c w) nan r j (get_or w (j * m + c) nan) inside k (sym (entry_at m d c j (j * m + c) w h refl)) t
 
-pub taken-all : (m d c j : ℕ) (w r : List Float) → j ≡ d → take j r ≡ take j (column m d c w) → take d r ≡ column m d c w
-taken-all m d c j w r e t =
+pub taken_all : (m d c j : ℕ) (w r : List Float) → j ≡ d → take j r ≡ take j (column m d c w) → take d r ≡ column m d c w
+taken_all m d c j w r e t =
     let all : length (column m d c w) ≤ d = omega (arith, column-length m d c w) in
     (rw e at t) ∙ take_all d (column m d c w) all
 
-pub taken-size : (m d c : ℕ) (w r : List Float) → take d r ≡ column m d c w → d ≡ length (take d r)
-taken-size m d c w r e = sym (ap length e ∙ column-length m d c w)
+pub taken_size : (m d c : ℕ) (w r : List Float) → take d r ≡ column m d c w → d ≡ length (take d r)
+taken_size m d c w r e = sym (ap length e ∙ column-length m d c w)
 
 -- ---- put back, entry by entry
 
@@ -44,28 +44,28 @@ module _ (m c : ℕ) (answers w : List Float) (h : c < m) where
   pub put-done : (j : ℕ) → length answers ≤ j → take j (column m (length answers) c w) ≡ take j answers → column m (length answers) c w ≡ answers
   put-done j l t = fill_done answers nan (column m (length answers) c w) j l (rw (column-length m (length answers) c w) l) t
 
-others-length : (scale : Float) (ms : List Float) → length (othersSum scale ms) ≡ length ms
-unfolding othersSum
-others-length scale ms = each-length (othersAnswer scale) ms
+others-length : (scale : Float) (ms : List Float) → length (others_sum scale ms) ≡ length ms
+unfolding others_sum
+others-length scale ms = each-length (others_answer scale) ms
 
 -- as many answers as messages
-pub answers-size : (s : Float) (ms answers : List Float) → answers ≡ othersSum s ms → length answers ≡ length ms
+pub answers-size : (s : Float) (ms answers : List Float) → answers ≡ others_sum s ms → length answers ≡ length ms
 answers-size s ms answers q = ap length q ∙ others-length s ms
 
 -- the column that was put holds the answers to the messages
-pub answers-put : (m c : ℕ) (s t : Float) (ms answers w v : List Float) → s ≡ t → answers ≡ othersSum s ms → ColumnIs m (length answers) c answers w v
-    → ColumnIs m (length ms) c (othersSum t ms) w v
+pub answers-put : (m c : ℕ) (s t : Float) (ms answers w v : List Float) → s ≡ t → answers ≡ others_sum s ms → ColumnIs m (length answers) c answers w v
+    → ColumnIs m (length ms) c (others_sum t ms) w v
 answers-put m c s t ms answers w v e q k =
-    let same : answers ≡ othersSum t ms = q ∙ ap (λ (x : Float). othersSum x ms) e in
-    subst (λ (d : ℕ). ColumnIs m d c (othersSum t ms) w v) (others-length t ms) (subst (λ (xs : List Float). ColumnIs m (length xs) c xs w v) same k)
+    let same : answers ≡ others_sum t ms = q ∙ ap (λ (x : Float). others_sum x ms) e in
+    subst (λ (d : ℕ). ColumnIs m d c (others_sum t ms) w v) (others-length t ms) (subst (λ (xs : List Float). ColumnIs m (length xs) c xs w v) same k)
 
 -- the messages that were taken are the column
-pub column-put : (m d c : ℕ) (scale : Float) (ms w v : List Float) → ms ≡ column m d c w → ColumnIs m (length ms) c (othersSum scale ms) w v
-    → ColumnIs m d c (othersSum scale (column m d c w)) w v
+pub column-put : (m d c : ℕ) (scale : Float) (ms w v : List Float) → ms ≡ column m d c w → ColumnIs m (length ms) c (others_sum scale ms) w v
+    → ColumnIs m d c (others_sum scale (column m d c w)) w v
 column-put m d c scale ms w v e k =
-    subst (λ (n : ℕ). ColumnIs m n c (othersSum scale (column m d c w)) w v) (column-length m d c w)
-    (subst (λ (xs : List Float). ColumnIs m (length xs) c (othersSum scale xs) w v) e k)
+    subst (λ (n : ℕ). ColumnIs m n c (others_sum scale (column m d c w)) w v) (column-length m d c w)
+    (subst (λ (xs : List Float). ColumnIs m (length xs) c (others_sum scale xs) w v) e k)
 
 -- both engines answer each column alike
-pub engines-same : (scale : Float) (m d : ℕ) (w v : List Float) → AtColumns (othersSum scale) m d w v → AtColumns (minSum scale) m d w v
-engines-same scale m d w v at = record { size = at.size; columns = λ c h. at.columns c h ∙ sym (same-answers scale (column m d c w)) }
+pub engines_same : (scale : Float) (m d : ℕ) (w v : List Float) → AtColumns (others_sum scale) m d w v → AtColumns (min_sum scale) m d w v
+engines_same scale m d w v at = record { size = at.size; columns = λ c h. at.columns c h ∙ sym (same-answers scale (column m d c w)) }

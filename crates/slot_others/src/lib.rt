@@ -1,8 +1,8 @@
 // The second engine of min-sum over messages that lie by slots: check by check the messages are taken out of their slots, answered each from its others,
 // and the answers put in their place.
 ghost use Rattle.std.specs.Prelude.{◌≡◌, ◌*◌, ◌<◌, ◌≤◌, length, take};
-ghost use Rattle.softmath.specs.CheckNode.{minSum, factorOf};
-ghost use Rattle.by_others.specs.Others.{othersSum};
+ghost use Rattle.softmath.specs.CheckNode.{min_sum, factor_of};
+ghost use Rattle.by_others.specs.Others.{others_sum};
 ghost use Rattle.slots.specs.Columns.{column, AtColumns, ColumnIs};
 
 use softmath::DecodeRule;
@@ -46,7 +46,7 @@ fn replace_column(
     requires work_len { (length work.old ≡ length messages.now * m) × (c < m) }
     requires answers_len { length answers.old ≡ length messages.now }
     ensures { ColumnIs m (length messages.now) c
-        (othersSum (factorOf rule) messages.now) work.old work.new }
+        (others_sum (factor_of rule) messages.now) work.old work.new }
 {
     by_others::min_sum_by_others(softmath::factor_of(rule), messages, answers);
     put_column(m, c, answers, work);
@@ -56,7 +56,7 @@ fn replace_column(
 fn answer_check(rule: DecodeRule, m: usize, d: usize, c: usize, work: &mut [f32])
     requires work_len { (length work.old ≡ d * m) × (c < m) }
     requires d_bound { d ≤ 16 }
-    ensures { ColumnIs m d c (othersSum (factorOf rule) (column m d c work.old)) work.old work.new }
+    ensures { ColumnIs m d c (others_sum (factor_of rule) (column m d c work.old)) work.old work.new }
 {
     let messages = column_of(m, d, c, work);
     let mut answers = [0.0f32; 16];
@@ -67,7 +67,7 @@ fn answer_check(rule: DecodeRule, m: usize, d: usize, c: usize, work: &mut [f32]
 fn min_sum_others(rule: DecodeRule, m: usize, d: usize, work: &mut [f32])
     requires work_len { length work.old ≡ d * m }
     requires d_bound { d ≤ 16 }
-    ensures { AtColumns (othersSum (factorOf rule)) m d work.old work.new }
+    ensures { AtColumns (others_sum (factor_of rule)) m d work.old work.new }
 {
     let mut c = 0;
     while c < m {
@@ -80,7 +80,7 @@ fn min_sum_others(rule: DecodeRule, m: usize, d: usize, work: &mut [f32])
 pub fn min_sum_second(rule: DecodeRule, m: usize, d: usize, work: &mut [f32])
     requires work_len { length work.old ≡ d * m }
     requires d_bound { d ≤ 16 }
-    ensures { AtColumns (minSum (factorOf rule)) m d work.old work.new }
+    ensures { AtColumns (min_sum (factor_of rule)) m d work.old work.new }
 {
     min_sum_others(rule, m, d, work);
 }

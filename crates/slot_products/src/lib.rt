@@ -2,14 +2,14 @@
 // place j * m + c. Check by check a column is turned in place. Where m and d are numbers that the compiler sees it takes a check's loops apart, and works
 // on several checks at a time.
 ghost use Rattle.std.specs.Prelude.{◌≡◌, ◌*◌, ◌<◌, length, drop};
-ghost use Rattle.softmath.specs.Single.{◌⊗◌, foldFrom, product};
-ghost use Rattle.softmath.specs.CheckNode.{atEach};
+ghost use Rattle.softmath.specs.Single.{◌⊗◌, fold_from, product};
+ghost use Rattle.softmath.specs.CheckNode.{at_each};
 ghost use Rattle.slots.specs.Columns.{column, AtColumns, ColumnIs};
 
 // `start` times the entries of check c from entry `from` on, in row order.
 fn product_from(start: f32, m: usize, d: usize, c: usize, from: usize, work: &[f32]) -> f32
     requires { (length work.now ≡ d * m) × (c < m) }
-    ensures { result ≡ foldFrom ◌⊗◌ start (drop from (column m d c work.now)) }
+    ensures { result ≡ fold_from ◌⊗◌ start (drop from (column m d c work.now)) }
 {
     let mut p = start;
     let mut j = from;
@@ -23,7 +23,7 @@ fn product_from(start: f32, m: usize, d: usize, c: usize, from: usize, work: &[f
 // In the place of each entry of check c the product from 1.0 of the others, in row order: those before it are carried along, those after it are still there.
 fn product_column(m: usize, d: usize, c: usize, work: &mut [f32])
     requires { (length work.old ≡ d * m) × (c < m) }
-    ensures { ColumnIs m d c (atEach product (column m d c work.old)) work.old work.new }
+    ensures { ColumnIs m d c (at_each product (column m d c work.old)) work.old work.new }
 {
     let mut carried = 1.0;
     let mut j = 0;
@@ -39,7 +39,7 @@ fn product_column(m: usize, d: usize, c: usize, work: &mut [f32])
 // The same at every check.
 fn product_columns(m: usize, d: usize, work: &mut [f32])
     requires { length work.old ≡ d * m }
-    ensures { AtColumns (atEach product) m d work.old work.new }
+    ensures { AtColumns (at_each product) m d work.old work.new }
 {
     let mut c = 0;
     while c < m {
@@ -51,7 +51,7 @@ fn product_columns(m: usize, d: usize, work: &mut [f32])
 // The same with the sizes of the codes as numbers that the compiler sees.
 pub fn products_slots(m: usize, d: usize, work: &mut [f32])
     requires { length work.old ≡ d * m }
-    ensures { AtColumns (atEach product) m d work.old work.new }
+    ensures { AtColumns (at_each product) m d work.old work.new }
 {
     if m == 256 && d == 5 {
         return product_columns(256, 5, work);

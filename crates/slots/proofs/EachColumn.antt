@@ -11,23 +11,23 @@ use lib.Ieee.{Float, nan}
 use lib.ListN.{length, get_or, set, length-set}
 use lib.Seq.{get_or-set_same, get_or-set_other, ext_get_or}
 use Rattle.slots.specs.Columns.{column, AtColumns, ColumnIs}
-use Rattle.slots.proofs.Columns.{column-at, column-length}
-use Rattle.slots.proofs.Edges.{same_check, same-entry, entry-below}
+use Rattle.slots.proofs.Columns.{column_at, column-length}
+use Rattle.slots.proofs.Edges.{same_check, same-entry, entry_below}
 
 -- entry j of column c lies within a work area of d slots
 pub place_inside : (m d c j n : ℕ) → n ≡ d * m → c < m → j < d → j * m + c < n
-place_inside m d c j n e h l = omega (arith, e, entry-below m d j c (j * m + c) h l refl)
+place_inside m d c j n e h l = omega (arith, e, entry_below m d j c (j * m + c) h l refl)
 
 -- and is what lies at its place
 pub entry_at : (m d c j p : ℕ) (w : List Float) → j < d → p ≡ j * m + c → get_or (column m d c w) j nan ≡ get_or w p nan
-entry_at m d c j p w l e = column-at m d c j w l ∙ ap (λ (x : ℕ). get_or w x nan) (sym e)
+entry_at m d c j p w l e = column_at m d c j w l ∙ ap (λ (x : ℕ). get_or w x nan) (sym e)
 
 -- ---- entry j of column c set
 
 module _ (m d c j p : ℕ) (x : Float) (v : List Float) (h : c < m) (e : p ≡ j * m + c) where
   -- what column k then holds at entry i, but for the entry that was set
   at_other : (k i : ℕ) → i < d → (i * m + k ≡ p → ⊥) → get_or (column m d k (set v p x)) i nan ≡ get_or (column m d k v) i nan
-  at_other k i l n = column-at m d k i (set v p x) l ∙ get_or-set_other v p (i * m + k) x nan n ∙ sym (column-at m d k i v l)
+  at_other k i l n = column_at m d k i (set v p x) l ∙ get_or-set_other v p (i * m + k) x nan n ∙ sym (column_at m d k i v l)
 
   own_at : (i : ℕ) (b : Bool) → eqb i j ≡ b → j < d → p < length v → i < d
       → get_or (column m d c (set v p x)) i nan ≡ get_or (set (column m d c v) j x) i nan
@@ -35,7 +35,7 @@ module _ (m d c j p : ℕ) (x : Float) (v : List Float) (h : c < m) (e : p ≡ j
       let same : i ≡ j = eqb-true i j q in
       let place : j * m + c ≡ p = sym e in
       let inside : j < length (column m d c v) = rw (column-length m d c v) l in
-      rw same (column-at m d c j (set v p x) l ∙ rw place (get_or-set_same v p x nan n ∙ sym (get_or-set_same (column m d c v) j x nan inside)))
+      rw same (column_at m d c j (set v p x) l ∙ rw place (get_or-set_same v p x nan n ∙ sym (get_or-set_same (column m d c v) j x nan inside)))
   own_at i false q l n k =
       let apart : i ≡ j → ⊥ = eqb-false i j q in
       at_other c i k (λ s. apart (same-entry m i j c c h h (s ∙ e))) ∙ sym (get_or-set_other (column m d c v) j i x nan apart)
@@ -70,8 +70,8 @@ apart_more m d c j p x w v h e a = record {
   apart = λ k l n. set_apart m d c j p x v h e k l n ∙ a.apart k l n;
 }
 
-pub column-is : {m d c : ℕ} {xs w v : List Float} → ApartFrom m d c w v → column m d c v ≡ xs → ColumnIs m d c xs w v
-column-is a e = record { size = a.size; here = e; apart = a.apart }
+pub column_is : {m d c : ℕ} {xs w v : List Float} → ApartFrom m d c w v → column m d c v ≡ xs → ColumnIs m d c xs w v
+column_is a e = record { size = a.size; here = e; apart = a.apart }
 
 -- ---- column by column
 
@@ -106,8 +106,8 @@ module _ (f : List Float → List Float) (m d : ℕ) (w : List Float) where
 
 -- ---- at sizes that a test has found
 
-pub at-sizes : {f : List Float → List Float} {m d i j : ℕ} {w v : List Float} → m ≡ i → d ≡ j → AtColumns f i j w v → AtColumns f m d w v
-at-sizes p q a = rw (p, q) a
+pub at_sizes : {f : List Float → List Float} {m d i j : ℕ} {w v : List Float} → m ≡ i → d ≡ j → AtColumns f i j w v → AtColumns f m d w v
+at_sizes p q a = rw (p, q) a
 
 pub room_at : {m d i j n : ℕ} → m ≡ i → d ≡ j → n ≡ d * m → n ≡ j * i
 room_at p q e = rw (p, q) at e

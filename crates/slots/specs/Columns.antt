@@ -3,13 +3,13 @@ use Rattle.std.specs.Prelude.{◌≡◌, ℕ, zero, suc, ◌+◌, ◌<◌, List,
 use Rattle.std.specs.Float.{nan}
 
 -- d entries of w: the first at place p, and each m places after the one before it
-unfoldable pub columnFrom : ℕ → ℕ → ℕ → List Float → List Float
-columnFrom m zero p w = []
-columnFrom m (suc d) p w = get_or w p nan ∷ columnFrom m d (m + p) w
+unfoldable pub column_from : ℕ → ℕ → ℕ → List Float → List Float
+column_from m zero p w = []
+column_from m (suc d) p w = get_or w p nan ∷ column_from m d (m + p) w
 
 -- the entries of check c: w's at c, m + c, 2 m + c and so on, d of them
 abbrev pub column : ℕ → ℕ → ℕ → List Float → List Float
-column m d c w = columnFrom m d c w
+column m d c w = column_from m d c w
 
 -- v is w with each of the m columns of d entries answered by f
 pub record AtColumns (f : List Float → List Float) (m d : ℕ) (w v : List Float) : Type 0 where

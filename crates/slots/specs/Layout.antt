@@ -16,39 +16,39 @@ pub record Slotted (cs : Checks) (m d : ℕ) : Type 0 where
 -- ---- the place of an edge
 
 -- the place of edge e, where the first of the checks is check c
-unfoldable pub slotFrom : ℕ → ℕ → Checks → ℕ → ℕ
-slotFrom m c [] e = 0
-slotFrom m c (r ∷ rs) e = let later = slotFrom m (suc c) rs (e - length r) in cond (ltb e (length r)) (e * m + c) later
+unfoldable pub slot_from : ℕ → ℕ → Checks → ℕ → ℕ
+slot_from m c [] e = 0
+slot_from m c (r ∷ rs) e = let later = slot_from m (suc c) rs (e - length r) in cond (ltb e (length r)) (e * m + c) later
 
 -- edge e is entry j of check c: its place is j * m + c
-abbrev pub slotPlace : Checks → ℕ → ℕ → ℕ
-slotPlace cs m e = slotFrom m 0 cs e
+abbrev pub slot_place : Checks → ℕ → ℕ → ℕ
+slot_place cs m e = slot_from m 0 cs e
 
 -- the places of position p's edges, checks ascending
-abbrev pub slotEdges : Checks → ℕ → ℕ → List ℕ
-slotEdges cs m p = map (slotPlace cs m) (places p 0 (joined cs))
+abbrev pub slot_edges : Checks → ℕ → ℕ → List ℕ
+slot_edges cs m p = map (slot_place cs m) (places p 0 (joined cs))
 
 -- ---- the places after a check's last entry, where it has one less than d
 
 -- where the first of the checks is check c
-unfoldable pub padsFrom : ℕ → ℕ → ℕ → Checks → List ℕ
-padsFrom m d c [] = []
-padsFrom m d c (r ∷ rs) = let later = padsFrom m d (suc c) rs in cond (ltb (length r) d) ((length r * m + c) ∷ later) later
+unfoldable pub pads_from : ℕ → ℕ → ℕ → Checks → List ℕ
+pads_from m d c [] = []
+pads_from m d c (r ∷ rs) = let later = pads_from m d (suc c) rs in cond (ltb (length r) d) ((length r * m + c) ∷ later) later
 
-abbrev pub padPlaces : Checks → ℕ → ℕ → List ℕ
-padPlaces cs m d = padsFrom m d 0 cs
+abbrev pub pad_places : Checks → ℕ → ℕ → List ℕ
+pad_places cs m d = pads_from m d 0 cs
 
 -- ---- parity bits, whose edges lie in the last two slots: the own row's in the slot that starts at `from`, and the next row's, where there is one, in the slot
 -- after it
 
-unfoldable pub parityPlaces : ℕ → ℕ → ℕ → List ℕ
-parityPlaces from m i = cond (ltb (i + 1) m) ((from + i) ∷ ((from + m + (i + 1)) ∷ [])) ((from + i) ∷ [])
+unfoldable pub parity_places : ℕ → ℕ → ℕ → List ℕ
+parity_places from m i = cond (ltb (i + 1) m) ((from + i) ∷ ((from + m + (i + 1)) ∷ [])) ((from + i) ∷ [])
 
 -- ---- a table of three places a position
 
 -- the three of position b
-unfoldable pub threeAt : List ℕ → ℕ → List ℕ
-threeAt flat b = take 3 (drop (b * 3) flat)
+unfoldable pub three_at : List ℕ → ℕ → List ℕ
+three_at flat b = take 3 (drop (b * 3) flat)
 
 -- a flat list cut into threes
 unfoldable pub threes : List ℕ → List (List ℕ)

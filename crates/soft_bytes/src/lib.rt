@@ -1,7 +1,7 @@
 // One soft value of the other maker, a signed byte in eighths, and our f32 value.
 ghost use Rattle.std.specs.Prelude.{◌≡◌, true, false};
 ghost use Rattle.std.specs.Float.Ieee.{lt};
-ghost use Rattle.soft_bytes.specs.Values.{value_of, wholeEighths, minusZero, passes, byteOf};
+ghost use Rattle.soft_bytes.specs.Values.{value_of, whole_eighths, minus_zero, passes, byte_of};
 ghost use Rattle.softmath.specs.Single.{zero32};
 
 // The value of a byte: a zero has no sign in either model.
@@ -18,8 +18,8 @@ pub fn value_of(b: i8, positive_is_one: bool) -> f32
 // Whether eight times a value is a whole number from 0 to 127: that number, over eight again, is the value.
 fn whole_eighths(v: f32) -> bool
     requires zero32_value { lt v zero32 ≡ false }
-    requires v_value { minusZero v ≡ false }
-    ensures { result ≡ wholeEighths v }
+    requires v_value { minus_zero v ≡ false }
+    ensures { result ≡ whole_eighths v }
 {
     let t = v * 8.0;
     if t > -1.0 {
@@ -35,7 +35,7 @@ fn whole_eighths(v: f32) -> bool
 
 // Whether the value is -0.0: one over it is below zero then, and over 0.0 it is not.
 fn is_minus_zero(v: f32) -> bool
-    ensures { result ≡ minusZero v }
+    ensures { result ≡ minus_zero v }
 {
     if v == 0.0 {
         return 1.0 / v < 0.0;
@@ -59,7 +59,7 @@ pub fn passes(v: f32) -> bool
 // The byte of a value that passes.
 pub fn byte_of(v: f32, positive_is_one: bool) -> i8
     requires { passes v ≡ true }
-    ensures { result ≡ byteOf positive_is_one v }
+    ensures { result ≡ byte_of positive_is_one v }
 {
     let t = v * 8.0;
     let n = t as i8;

@@ -11,7 +11,7 @@ use lib.IntN.{ℤ, pos, negsuc}
 use lib.Ieee.{Float, fin, binary32, unlike, fits}
 use lib.Ieee.Fits.{mul-fits}
 use borrow.Author.Tests.{eqb-true}
-use Rattle.softmath.specs.Single.{◌⊗◌, foldFrom}
+use Rattle.softmath.specs.Single.{◌⊗◌, fold_from}
 
 pub unlike-false : (s : Bool) → unlike s false ≡ s
 unlike-false true = refl
@@ -31,7 +31,7 @@ fits-unsigned s zero e h = h
 fits-unsigned s (suc m) e h = h
 
 -- f32 holds a product that is started from what it holds
-pub fold-fits : (s : Float) (xs : List Float) → T (fits binary32 s) → T (fits binary32 (foldFrom ◌⊗◌ s xs))
-unfolding foldFrom
-fold-fits s [] h = h
-fold-fits s (x ∷ xs) h = fold-fits (s ⊗ x) xs (mul-fits binary32 s x)
+pub fold_fits : (s : Float) (xs : List Float) → T (fits binary32 s) → T (fits binary32 (fold_from ◌⊗◌ s xs))
+unfolding fold_from
+fold_fits s [] h = h
+fold_fits s (x ∷ xs) h = fold_fits (s ⊗ x) xs (mul-fits binary32 s x)

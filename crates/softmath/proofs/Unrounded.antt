@@ -74,11 +74,11 @@ module _ (f : Format) (s : Bool) (m : ℕ) (e : ℤ) (h : T (fits f (fin s (suc 
 -- ---- nothing is rounded
 
 -- the exponent's fraction is not finer than the format's smallest value
-fine-exponent : (f : Format) (k : ℕ) → 2 ^ suc k ≤ 2 ^ low f → suc k ≤ low f
-fine-exponent f k h = lt_of_not-le (λ g. omega (arith, h, pow-lt {i = low f} {j = suc k} (omega (arith, g))))
+fine_exponent : (f : Format) (k : ℕ) → 2 ^ suc k ≤ 2 ^ low f → suc k ≤ low f
+fine_exponent f k h = lt_of_not-le (λ g. omega (arith, h, pow-lt {i = low f} {j = suc k} (omega (arith, g))))
 
-value-kept : (f : Format) (s : Bool) (m : ℕ) (e : ℤ) → T (fits f (fin s (suc m) e)) → HasValue (round f s (suc m * up e) (down e)) s (suc m * up e) (down e)
-value-kept f s m (pos k) h =
+value_kept : (f : Format) (s : Bool) (m : ℕ) (e : ℤ) → T (fits f (fin s (suc m) e)) → HasValue (round f s (suc m * up e) (down e)) s (suc m * up e) (down e)
+value_kept f s m (pos k) h =
     let q = suc m in
     let l = low f in
     let whole : q * 2 ^ (k + l) ≡ q * 2 ^ k * 2 ^ l = ap (λ (x : ℕ). q * x) (pow-add 2 k l) ∙ sym (mul_assoc q (2 ^ k) (2 ^ l)) in
@@ -87,10 +87,10 @@ value-kept f s m (pos k) h =
     subst (λ (x : ℕ). x < 2 ^ (l + suc (emax f))) (sym whole)
     (subst (λ (x : ℕ). q * 2 ^ k * 2 ^ l < 2 ^ x) (add_comm (suc (emax f)) l) (shl_lt (suc (emax f)) l small)) in
     round_exact f s (q * 2 ^ k) 1 q (k + l) (zero-lt-suc 0) (is-short f s m (pos k) h) below (sym whole ∙ sym (mul-one (q * 2 ^ (k + l))))
-value-kept f s m (negsuc k) h =
+value_kept f s m (negsuc k) h =
     let q = suc m in
     let l = low f in
-    let long : suc k ≤ l = fine-exponent f k (is-fine f s m (negsuc k) h) in
+    let long : suc k ≤ l = fine_exponent f k (is-fine f s m (negsuc k) h) in
     let j = l - suc k in
     let whole : q * 1 * 2 ^ l ≡ q * 2 ^ j * 2 ^ suc k =
     ap (λ (x : ℕ). x * 2 ^ l) (mul-one q) ∙ ap (λ (x : ℕ). q * 2 ^ x) (sym (back l (suc k) long)) ∙ ap (λ (x : ℕ). q * x) (pow-add 2 j (suc k))
@@ -113,20 +113,20 @@ the_value f (fin u (suc n) g) s m e t h v =
     let r = same_digits (suc m) (suc n) e g (is_odd f s m e h) (is_odd f u n g t) v.1 in
     rw (v.0, r.0, r.1)
 
-pub round-itself : (f : Format) (s : Bool) (m : ℕ) (e : ℤ) → T (fits f (fin s (suc m) e)) → round f s (suc m * up e) (down e) ≡ fin s (suc m) e
-round-itself f s m e h = the_value f _ s m e (round-fits f s (suc m * up e) (down e)) h (value-kept f s m e h)
+pub round_itself : (f : Format) (s : Bool) (m : ℕ) (e : ℤ) → T (fits f (fin s (suc m) e)) → round f s (suc m * up e) (down e) ≡ fin s (suc m) e
+round_itself f s m e h = the_value f _ s m e (round-fits f s (suc m * up e) (down e)) h (value_kept f s m e h)
 
 -- ---- times 1.0
 
-zero-times-one : (s : Bool) → fin s zero (pos 0) ⊗ one32 ≡ fin s zero (pos 0)
+zero-times_one : (s : Bool) → fin s zero (pos 0) ⊗ one32 ≡ fin s zero (pos 0)
 unfolding mul of_bits
-zero-times-one true = refl
-zero-times-one false = refl
+zero-times_one true = refl
+zero-times_one false = refl
 
-pub times-one : (x : Float) → T (fits binary32 x) → x ⊗ one32 ≡ x
+pub times_one : (x : Float) → T (fits binary32 x) → x ⊗ one32 ≡ x
 unfolding mul of_bits
-times-one nan h = refl
-times-one (inf true) h = refl
-times-one (inf false) h = refl
-times-one (fin s zero e) h = rw (zero_exponent s e (is_true _ h)) (zero-times-one s)
-times-one (fin s (suc m) e) h = rw (unlike-false s, mul-one (suc m * up e), mul-one (down e)) (round-itself binary32 s m e h)
+times_one nan h = refl
+times_one (inf true) h = refl
+times_one (inf false) h = refl
+times_one (fin s zero e) h = rw (zero_exponent s e (is_true _ h)) (zero-times_one s)
+times_one (fin s (suc m) e) h = rw (unlike-false s, mul-one (suc m * up e), mul-one (down e)) (round_itself binary32 s m e h)

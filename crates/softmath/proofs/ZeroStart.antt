@@ -13,13 +13,13 @@ use lib.IntN.{ℤ, pos}
 use lib.Ieee.{Float, nan, inf, fin, binary32, up, down, nearest, units, odd, size, span, climb, round, sum, add, sub, neg, of_bits}
 use lib.Ieee.Fits.{up_pos}
 use borrow.Author.Tests.{lt-ltb, le-ltb}
-use Rattle.softmath.specs.Single.{◌⊕◌, ◌⊖◌, zero32, foldFrom, sumFrom}
-use Rattle.softmath.specs.VariableNode.{newMessages}
+use Rattle.softmath.specs.Single.{◌⊕◌, ◌⊖◌, zero32, fold_from, sum_from}
+use Rattle.softmath.specs.VariableNode.{new_messages}
 use Rattle.softmath.specs.declared.SumKind.TheVariants.{Total}
 
 -- -0.0
-abbrev pub minusZero32 : Float
-minusZero32 = neg zero32
+abbrev pub minus_zero32 : Float
+minus_zero32 = neg zero32
 
 -- ---- nothing rounds to zero, with the sign given
 
@@ -60,9 +60,9 @@ sum_zeros true false c = round-zero false c
 sum_zeros false true c = round-zero false c
 sum_zeros false false c = round-zero false c
 
-pub zeros-add : (s t : Bool) (e d : ℤ) → fin s 0 e ⊕ fin t 0 d ≡ fin (s && t) 0 (pos 0)
+pub zeros_add : (s t : Bool) (e d : ℤ) → fin s 0 e ⊕ fin t 0 d ≡ fin (s && t) 0 (pos 0)
 unfolding add
-zeros-add s t e d = simp zero-mul (sum_zeros s t (down e * down d))
+zeros_add s t e d = simp zero-mul (sum_zeros s t (down e * down d))
 
 -- some digits are some units
 pub some : (m : ℕ) (e : ℤ) → 0 < suc m * up e
@@ -70,23 +70,23 @@ some m e = let p : 0 < suc m = omega arith in mul-pos p (up_pos e)
 
 -- the two sums are one, or x is -0.0 and each sum is the zero it was started from
 abbrev Either : Float → Float → Float → Type 0
-Either x p n = (p ≡ n) ⊎ (NegativeZero x × (p ≡ zero32) × (n ≡ minusZero32))
+Either x p n = (p ≡ n) ⊎ (NegativeZero x × (p ≡ zero32) × (n ≡ minus_zero32))
 
-zero_left : (a : Float) → Either a (zero32 ⊕ a) (minusZero32 ⊕ a)
+zero_left : (a : Float) → Either a (zero32 ⊕ a) (minus_zero32 ⊕ a)
 unfolding add neg of_bits
 zero_left nan = inl refl
 zero_left (inf t) = inl refl
 zero_left (fin t (suc n) d) = inl (rw (zero-mul (down d)) (sum_left t (suc n * up d * 1) (1 * down d) (omega (arith, some n d))))
-zero_left (fin false zero d) = inl (zeros-add false false (pos 0) d ∙ sym (zeros-add true false (pos 0) d))
-zero_left (fin true zero d) = inr (minus, zeros-add false true (pos 0) d, zeros-add true true (pos 0) d)
+zero_left (fin false zero d) = inl (zeros_add false false (pos 0) d ∙ sym (zeros_add true false (pos 0) d))
+zero_left (fin true zero d) = inr (minus, zeros_add false true (pos 0) d, zeros_add true true (pos 0) d)
 
-zero_right : (x : Float) → Either x (x ⊕ zero32) (x ⊕ minusZero32)
+zero_right : (x : Float) → Either x (x ⊕ zero32) (x ⊕ minus_zero32)
 unfolding add neg of_bits
 zero_right nan = inl refl
 zero_right (inf t) = inl refl
 zero_right (fin s (suc m) e) = inl (rw (zero-mul (down e)) (sum-right s (suc m * up e * 1) (down e * 1) (omega (arith, some m e))))
-zero_right (fin false zero e) = inl (zeros-add false false e (pos 0) ∙ sym (zeros-add false true e (pos 0)))
-zero_right (fin true zero e) = inr (minus, zeros-add true false e (pos 0), zeros-add true true e (pos 0))
+zero_right (fin false zero e) = inl (zeros_add false false e (pos 0) ∙ sym (zeros_add false true e (pos 0)))
+zero_right (fin true zero e) = inr (minus, zeros_add true false e (pos 0), zeros_add true true e (pos 0))
 
 -- ---- the sums of the answers
 
@@ -94,46 +94,46 @@ data AllNegative : List Float → Type 0 where
   none : AllNegative []
   more : {a : Float} {ys : List Float} → NegativeZero a → AllNegative ys → AllNegative (a ∷ ys)
 
-member-negative : {own : Float} {ys : List Float} → Memᴰ own ys → AllNegative ys → NegativeZero own
-member-negative (Memᴰ.head e) (more n all) = rw e n
-member-negative (Memᴰ.tail m) (more n all) = member-negative m all
+member_negative : {own : Float} {ys : List Float} → Memᴰ own ys → AllNegative ys → NegativeZero own
+member_negative (Memᴰ.head e) (more n all) = rw e n
+member_negative (Memᴰ.tail m) (more n all) = member_negative m all
 
 -- the two sums are one, or every answer is -0.0 and each sum is the zero it was started from
 abbrev Sums : List Float → Type 0
-Sums ys = (sumFrom zero32 ys ≡ sumFrom minusZero32 ys) ⊎ (AllNegative ys × (sumFrom zero32 ys ≡ zero32) × (sumFrom minusZero32 ys ≡ minusZero32))
+Sums ys = (sum_from zero32 ys ≡ sum_from minus_zero32 ys) ⊎ (AllNegative ys × (sum_from zero32 ys ≡ zero32) × (sum_from minus_zero32 ys ≡ minus_zero32))
 
-sums-more : (a : Float) (ys : List Float) → Either a (zero32 ⊕ a) (minusZero32 ⊕ a) → Sums ys → Sums (a ∷ ys)
-unfolding foldFrom
-sums-more a ys (inl e) s = inl (rw e)
-sums-more a ys (inr n) (inl e) = inl (rw (n.1, n.2) e)
-sums-more a ys (inr n) (inr all) = inr (more n.0 all.0, rw n.1 all.1, rw n.2 all.2)
+sums_more : (a : Float) (ys : List Float) → Either a (zero32 ⊕ a) (minus_zero32 ⊕ a) → Sums ys → Sums (a ∷ ys)
+unfolding fold_from
+sums_more a ys (inl e) s = inl (rw e)
+sums_more a ys (inr n) (inl e) = inl (rw (n.1, n.2) e)
+sums_more a ys (inr n) (inr all) = inr (more n.0 all.0, rw n.1 all.1, rw n.2 all.2)
 
 sums : (ys : List Float) → Sums ys
-unfolding foldFrom
+unfolding fold_from
 sums [] = inr (none, refl, refl)
-sums (a ∷ ys) = sums-more a ys (zero_left a) (sums ys)
+sums (a ∷ ys) = sums_more a ys (zero_left a) (sums ys)
 
 -- ---- the messages
 
 -- taking off -0.0, from totals that differ at most in a zero's sign
-less_zero : (own p n : Float) → NegativeZero own → (p ≡ n) ⊎ ((p ≡ zero32) × (n ≡ minusZero32)) → p ⊖ own ≡ n ⊖ own
+less_zero : (own p n : Float) → NegativeZero own → (p ≡ n) ⊎ ((p ≡ zero32) × (n ≡ minus_zero32)) → p ⊖ own ≡ n ⊖ own
 unfolding sub add neg of_bits
 less_zero own p n g (inl e) = rw e
-less_zero (fin true zero e) p n minus (inr z) = rw (z.0, z.1) (zeros-add false false (pos 0) e ∙ sym (zeros-add true false (pos 0) e))
+less_zero (fin true zero e) p n minus (inr z) = rw (z.0, z.1) (zeros_add false false (pos 0) e ∙ sym (zeros_add true false (pos 0) e))
 
-pub zero-start : (llr own : Float) (answers : List Float) → Memᴰ own answers
-    → (llr ⊕ sumFrom zero32 answers) ⊖ own ≡ (llr ⊕ sumFrom minusZero32 answers) ⊖ own
-zero-start llr own answers m = ⊎_elim (λ e. rw e)
-    (λ all. less_zero own (llr ⊕ sumFrom zero32 answers) (llr ⊕ sumFrom minusZero32 answers) (member-negative m all.0)
+pub zero_start : (llr own : Float) (answers : List Float) → Memᴰ own answers
+    → (llr ⊕ sum_from zero32 answers) ⊖ own ≡ (llr ⊕ sum_from minus_zero32 answers) ⊖ own
+zero_start llr own answers m = ⊎_elim (λ e. rw e)
+    (λ all. less_zero own (llr ⊕ sum_from zero32 answers) (llr ⊕ sum_from minus_zero32 answers) (member_negative m all.0)
     (rw (all.1, all.2) (⊎_elim (λ e. inl e) (λ z. inr (z.1, z.2)) (zero_right llr))))
     (sums answers)
 
 -- every message of a bit: those of a total started from -0.0 are those of the definition
-messages-from : (t u : Float) (answers : List Float) → ((own : Float) → Memᴰ own answers → t ⊖ own ≡ u ⊖ own)
+messages_from : (t u : Float) (answers : List Float) → ((own : Float) → Memᴰ own answers → t ⊖ own ≡ u ⊖ own)
     → map (λ own. t ⊖ own) answers ≡ map (λ own. u ⊖ own) answers
-messages-from t u [] h = refl
-messages-from t u (a ∷ ys) h = rw (h a (Memᴰ.head refl), messages-from t u ys (λ own m. h own (Memᴰ.tail m)))
+messages_from t u [] h = refl
+messages_from t u (a ∷ ys) h = rw (h a (Memᴰ.head refl), messages_from t u ys (λ own m. h own (Memᴰ.tail m)))
 
-pub messages-same : (llr : Float) (answers : List Float) → newMessages Total llr answers ≡ map (λ own. (llr ⊕ sumFrom minusZero32 answers) ⊖ own) answers
-unfolding newMessages
-messages-same llr answers = messages-from (llr ⊕ sumFrom zero32 answers) (llr ⊕ sumFrom minusZero32 answers) answers (λ own m. zero-start llr own answers m)
+pub messages_same : (llr : Float) (answers : List Float) → new_messages Total llr answers ≡ map (λ own. (llr ⊕ sum_from minus_zero32 answers) ⊖ own) answers
+unfolding new_messages
+messages_same llr answers = messages_from (llr ⊕ sum_from zero32 answers) (llr ⊕ sum_from minus_zero32 answers) answers (λ own m. zero_start llr own answers m)

@@ -33,14 +33,14 @@ abbrev pub two32 : Float
 two32 = of_bits binary32 0x40000000
 
 -- an operation over a list, from the start on, left to right
-unfoldable pub foldFrom : (Float → Float → Float) → Float → List Float → Float
-foldFrom op start [] = start
-foldFrom op start (x ∷ xs) = foldFrom op (op start x) xs
+unfoldable pub fold_from : (Float → Float → Float) → Float → List Float → Float
+fold_from op start [] = start
+fold_from op start (x ∷ xs) = fold_from op (op start x) xs
 
 -- "multiply from 1.0, in .. order"
 abbrev pub product : List Float → Float
-product xs = foldFrom ◌⊗◌ one32 xs
+product xs = fold_from ◌⊗◌ one32 xs
 
 -- a sum from the start on, left to right
-abbrev pub sumFrom : Float → List Float → Float
-sumFrom start xs = foldFrom ◌⊕◌ start xs
+abbrev pub sum_from : Float → List Float → Float
+sum_from start xs = fold_from ◌⊕◌ start xs

@@ -1,8 +1,8 @@
 // The f32 arithmetic of a decoding round: the functions of one or two values. Each operation is rounded once, in a fixed order.
 ghost use Rattle.std.specs.Prelude.{◌≡◌, cond};
 ghost use Rattle.std.specs.Float.Ieee.{lt};
-ghost use Rattle.softmath.specs.Functions.{tanh, atanh, clampUnit, magnitudeOf, decide};
-ghost use Rattle.softmath.specs.CheckNode.{turned, factorOf};
+ghost use Rattle.softmath.specs.Functions.{tanh, atanh, clamp_unit, magnitude_of, decide};
+ghost use Rattle.softmath.specs.CheckNode.{turned, factor_of};
 
 // How a check answers: the three rules of the staircase codes, and (174,91)'s own.
 #[derive(Drop)]
@@ -47,7 +47,7 @@ pub fn fast_atanh(x: f32) -> f32
 
 // To -1.0 and 1.0; a NaN stays.
 pub fn clamp_unit(x: f32) -> f32
-    ensures { result ≡ clampUnit x }
+    ensures { result ≡ clamp_unit x }
 {
     if x < -1.0 {
         -1.0
@@ -59,7 +59,7 @@ pub fn clamp_unit(x: f32) -> f32
 // The value without its sign: 0.0 for both zeros, a NaN for a NaN. It does not ask whether x is below zero, as the sign's
 // test does: a test of floats that chooses twice would become a jump.
 pub fn magnitude(x: f32) -> f32
-    ensures { result ≡ magnitudeOf x }
+    ensures { result ≡ magnitude_of x }
 {
     if x > 0.0 { x } else { 0.0 - x }
 }
@@ -87,7 +87,7 @@ pub fn lesser(a: f32, b: f32) -> f32
 
 // What a min-sum rule multiplies its answers by.
 pub fn factor_of(rule: DecodeRule) -> f32
-    ensures { result ≡ factorOf rule }
+    ensures { result ≡ factor_of rule }
 {
     match rule {
         DecodeRule::SumProduct => 1.0,

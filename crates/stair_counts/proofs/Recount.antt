@@ -8,17 +8,17 @@ use native.Mathlib.Omega.{arith}
 use lib.Bits.{bit_and, bit_xor, and_mask}
 use lib.ListN.{length, get_or, take}
 use lib.Seq.{take_at, length-take-le}
-use Rattle.construction.specs.Codes.{Code, blockLength}
+use Rattle.construction.specs.Codes.{Code, block_length}
 use Rattle.tanner.specs.Checks.{parity, count, low_bits}
-use Rattle.tanner.specs.Masked.{countMasked}
-use Rattle.tanner.proofs.Count.{low-at, low-length, low-append, low-take, low_count, xor_low}
-use Rattle.staircase.specs.Staircase.{taps, checkRow, checkRows, parityBits, encoded}
+use Rattle.tanner.specs.Masked.{count_masked}
+use Rattle.tanner.proofs.Count.{low_at, low-length, low_append, low-take, low_count, xor_low}
+use Rattle.staircase.specs.Staircase.{taps, check_row, check_rows, parity_bits, encoded}
 use Rattle.staircase.specs.Codes.{code_of, columns, checks}
 use Rattle.staircase.proofs.EdgeCount.{columns-length}
-use Rattle.stairs.specs.Stairs.{bitBefore}
+use Rattle.stairs.specs.Stairs.{bit_before}
 use Rattle.stairs.proofs.Rows.{before_more}
 use Rattle.parities.proofs.Codewords.{row-message, encode-count}
-use Rattle.stair_counts.specs.Apart.{apart, rowsApart}
+use Rattle.stair_counts.specs.Apart.{apart, rows_apart}
 
 -- ---- sums of low bits
 
@@ -31,79 +31,79 @@ odd-apart t a b z = omega arith
 -- ---- a turn of the loop
 
 -- what the code adds for a row
-pub apart_of : (k i : ℕ) (u w : List ℕ) (before : ℕ) → before ≡ bit_xor (bitBefore k i u) (bitBefore k i w)
+pub apart_of : (k i : ℕ) (u w : List ℕ) (before : ℕ) → before ≡ bit_xor (bit_before k i u) (bit_before k i w)
     → bit_and (bit_xor (bit_xor (get_or u (k + i) 0) (get_or w (k + i) 0)) before) 1 ≡ apart k i u w
 unfolding apart
 apart_of k i u w before e =
     let own = bit_xor (get_or u (k + i) 0) (get_or w (k + i) 0) in
-    let low : before % 2 ≡ (bitBefore k i u + bitBefore k i w) % 2 = rw e (xor_low (bitBefore k i u) (bitBefore k i w)) in
+    let low : before % 2 ≡ (bit_before k i u + bit_before k i w) % 2 = rw e (xor_low (bit_before k i u) (bit_before k i w)) in
     and_mask (bit_xor own before) 1 ∙ xor_low own before ∙ odd-each own before _ _ (xor_low (get_or u (k + i) 0) (get_or w (k + i) 0)) low
 
-pub apart-bit : (k i : ℕ) (u w : List ℕ) → apart k i u w < 2
+pub apart_bit : (k i : ℕ) (u w : List ℕ) → apart k i u w < 2
 unfolding apart
-apart-bit k i u w = omega arith
+apart_bit k i u w = omega arith
 
 -- the bytes' difference is carried along
-pub none_before : (k : ℕ) (u w : List ℕ) → 0 ≡ bit_xor (bitBefore k 0 u) (bitBefore k 0 w)
-unfolding bitBefore
+pub none_before : (k : ℕ) (u w : List ℕ) → 0 ≡ bit_xor (bit_before k 0 u) (bit_before k 0 w)
+unfolding bit_before
 none_before k u w = refl
 
-pub own-before : (k i : ℕ) (u w : List ℕ)
-    → bit_xor (get_or u (k + i) 0) (get_or w (k + i) 0) ≡ bit_xor (bitBefore k (i + 1) u) (bitBefore k (i + 1) w)
-own-before k i u w = rw (before_more k i u, before_more k i w)
+pub own_before : (k i : ℕ) (u w : List ℕ)
+    → bit_xor (get_or u (k + i) 0) (get_or w (k + i) 0) ≡ bit_xor (bit_before k (i + 1) u) (bit_before k (i + 1) w)
+own_before k i u w = rw (before_more k i u, before_more k i w)
 
-pub apart_more : (k i m : ℕ) (u w : List ℕ) → i < m → rowsApart k i (m - i) u w ≡ apart k i u w + rowsApart k (i + 1) (m - (i + 1)) u w
-unfolding rowsApart
+pub apart_more : (k i m : ℕ) (u w : List ℕ) → i < m → rows_apart k i (m - i) u w ≡ apart k i u w + rows_apart k (i + 1) (m - (i + 1)) u w
+unfolding rows_apart
 apart_more k i m u w h =
     let e : m - i ≡ suc (m - (i + 1)) = omega arith in
     rw (e, add-one i)
 
-pub apart_none : (k i m : ℕ) (u w : List ℕ) → m ≤ i → rowsApart k i (m - i) u w ≡ 0
-unfolding rowsApart
+pub apart_none : (k i m : ℕ) (u w : List ℕ) → m ≤ i → rows_apart k i (m - i) u w ≡ 0
+unfolding rows_apart
 apart_none k i m u w h =
     let e : m - i ≡ 0 = omega arith in
     rw e
 
 -- ---- the law
 
-before-low : (k i : ℕ) (w : List ℕ) → bitBefore k i (low_bits w) ≡ bitBefore k i w % 2
-unfolding bitBefore
+before-low : (k i : ℕ) (w : List ℕ) → bit_before k i (low_bits w) ≡ bit_before k i w % 2
+unfolding bit_before
 before-low k zero w = refl
-before-low k (suc i) w = low-at w (k + i)
+before-low k (suc i) w = low_at w (k + i)
 
 module _ (k : ℕ) (cols : List (List ℕ)) (size : length cols ≤ k) (u w : List ℕ) (same : take k (low_bits u) ≡ take k (low_bits w)) where
   -- of either word, with the message bits of w
   row_low : (x : List ℕ) → take k (low_bits x) ≡ take k (low_bits w) → (i : ℕ)
-      → parity (checkRow k cols i) (low_bits x) ≡ (parity (taps i 0 cols) (take k (low_bits w)) + (get_or x (k + i) 0 + bitBefore k i x)) % 2
+      → parity (check_row k cols i) (low_bits x) ≡ (parity (taps i 0 cols) (take k (low_bits w)) + (get_or x (k + i) 0 + bit_before k i x)) % 2
   row_low x e i =
       row-message k cols size i (low_bits x) (take k (low_bits w)) e
-      ∙ rw (low-at x (k + i), before-low k i x) (odd-each _ _ _ _ refl (odd-each _ _ _ _ (omega arith) (omega arith)))
+      ∙ rw (low_at x (k + i), before-low k i x) (odd-each _ _ _ _ refl (odd-each _ _ _ _ (omega arith) (omega arith)))
 
-  row_apart : (i : ℕ) → parity (checkRow k cols i) (low_bits u) ≡ 0 → parity (checkRow k cols i) (low_bits w) ≡ apart k i u w
+  row_apart : (i : ℕ) → parity (check_row k cols i) (low_bits u) ≡ 0 → parity (check_row k cols i) (low_bits w) ≡ apart k i u w
   unfolding apart
   row_apart i z =
       row_low w refl i ∙ odd-apart _ _ _ (sym (row_low u same i) ∙ z) ∙ ap (λ (n : ℕ). n % 2) (omega arith)
 
-  rows_apart : (n i : ℕ) → count (checkRows k cols i n) (low_bits u) ≡ 0 → count (checkRows k cols i n) (low_bits w) ≡ rowsApart k i n u w
-  unfolding checkRows count rowsApart
+  rows_apart : (n i : ℕ) → count (check_rows k cols i n) (low_bits u) ≡ 0 → count (check_rows k cols i n) (low_bits w) ≡ rows_apart k i n u w
+  unfolding check_rows count rows_apart
   rows_apart zero i z = refl
   rows_apart (suc n) i z = omega (arith, row_apart i (omega arith), rows_apart n (suc i) (omega arith))
 
-pub recount : (c : Code) (w : List ℕ) → blockLength c ≤ length w
-    → rowsApart c.k 0 c.m (encoded c.m (columns c) (take c.k w)) w ≡ countMasked 1 (checks c) w
+pub recount : (c : Code) (w : List ℕ) → block_length c ≤ length w
+    → rows_apart c.k 0 c.m (encoded c.m (columns c) (take c.k w)) w ≡ count_masked 1 (checks c) w
 unfolding checks encoded
 recount c w h =
     let message = take c.k w in
     let long : length message ≡ c.k = length-take-le c.k w (omega arith) in
     let size : length (columns c) ≤ c.k = omega (arith, columns-length c) in
-    let ps = parityBits (columns c) (low_bits message) 0 c.m 0 in
+    let ps = parity_bits (columns c) (low_bits message) 0 c.m 0 in
     let same : take c.k (low_bits (message ++ ps)) ≡ take c.k (low_bits w) =
-    rw (low-append message ps) (take_at (low_bits message) (low_bits ps) c.k (low-length message ∙ long) ∙ low-take c.k w) in
+    rw (low_append message ps) (take_at (low_bits message) (low_bits ps) c.k (low-length message ∙ long) ∙ low-take c.k w) in
     sym (low_count (checks c) w ∙ rows_apart c.k (columns c) size (message ++ ps) w same c.m 0 (encode-count c.k c.m (columns c) size message long))
 
 -- as the code finds it
-pub recounted : (c : Code) (k m r : ℕ) (u w : List ℕ) → k ≡ c.k → m ≡ c.m → u ≡ encoded c.m (columns c) (take k w) → blockLength c ≤ length w
-    → r ≡ rowsApart k 0 m u w → r ≡ countMasked 1 (checks c) w
+pub recounted : (c : Code) (k m r : ℕ) (u w : List ℕ) → k ≡ c.k → m ≡ c.m → u ≡ encoded c.m (columns c) (take k w) → block_length c ≤ length w
+    → r ≡ rows_apart k 0 m u w → r ≡ count_masked 1 (checks c) w
 recounted c k m r u w e f g h t =
     let u-is : u ≡ encoded c.m (columns c) (take c.k w) = g ∙ rw e in
     t ∙ rw (e, f, u-is) (recount c w h)

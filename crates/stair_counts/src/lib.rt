@@ -1,11 +1,11 @@
 // A staircase code's count and its first open check, by the code's number.
 // The count takes no table: the message part is encoded again, and a row is open where just one of its two parity bits differs from that.
 ghost use Rattle.std.specs.Prelude.{◌≡◌, ◌+◌, ◌<◌, ◌≤◌, length};
-ghost use Rattle.tanner.specs.Masked.{countMasked, firstMasked, syndromeMasked};
-ghost use Rattle.tanner.specs.Found.{first_of, syndromeOf};
-ghost use Rattle.construction.specs.Codes.{n512r12, n576r23, n512r34, blockLength};
+ghost use Rattle.tanner.specs.Masked.{count_masked, first_masked, syndrome_masked};
+ghost use Rattle.tanner.specs.Found.{first_of, syndrome_of};
+ghost use Rattle.construction.specs.Codes.{n512r12, n576r23, n512r34, block_length};
 ghost use Rattle.staircase.specs.Codes.{code_of, checks};
-ghost use Rattle.stair_counts.specs.Apart.{rowsApart};
+ghost use Rattle.stair_counts.specs.Apart.{rows_apart};
 
 use staircase::tables::{N512R12_TAPS, N512R34_TAPS, N576R23_TAPS};
 use tanner::{Counted, FirstCheck};
@@ -15,7 +15,7 @@ fn count_apart(k: usize, m: usize, word: &[u8], hard: &[u8]) -> u16
     requires m_in_bounds { k + m ≤ length word.now }
     requires m_in_bounds_2 { k + m ≤ length hard.now }
     requires m_bound { m < 65536 }
-    ensures { result ≡ rowsApart k 0 m word.now hard.now }
+    ensures { result ≡ rows_apart k 0 m word.now hard.now }
 {
     let mut found: u16 = 0;
     let mut before: u8 = 0;
@@ -32,9 +32,9 @@ fn count_apart(k: usize, m: usize, word: &[u8], hard: &[u8]) -> u16
 // The count, with room for the encoding.
 fn count_in(code: u32, k: usize, word: &mut [u8], hard: &[u8]) -> u16
     requires k_value { k ≡ (code_of code).k }
-    requires word_len { length word.old ≡ blockLength (code_of code) }
-    requires code_in_bounds { blockLength (code_of code) ≤ length hard.now }
-    ensures { result ≡ countMasked 1 (checks (code_of code)) hard.now }
+    requires word_len { length word.old ≡ block_length (code_of code) }
+    requires code_in_bounds { block_length (code_of code) ≤ length hard.now }
+    ensures { result ≡ count_masked 1 (checks (code_of code)) hard.now }
 {
     parities::encode(code, &hard[..k], word);
     count_apart(k, word.len() - k, word, hard)
@@ -42,8 +42,8 @@ fn count_in(code: u32, k: usize, word: &mut [u8], hard: &[u8]) -> u16
 
 // How many checks the low bits of a word leave unsatisfied: any number above 1 is code 2.
 pub fn count(code: u32, hard: &[u8]) -> u16
-    requires { blockLength (code_of code) ≤ length hard.now }
-    ensures { result ≡ countMasked 1 (checks (code_of code)) hard.now }
+    requires { block_length (code_of code) ≤ length hard.now }
+    ensures { result ≡ count_masked 1 (checks (code_of code)) hard.now }
 {
     let mut word = [0; 576];
     if code == 0 {
@@ -57,30 +57,30 @@ pub fn count(code: u32, hard: &[u8]) -> u16
 
 // The first row of each code. A function a code names its table, since a constant is laid where the function that names it starts.
 fn row_n512r12(hard: &[u8]) -> FirstCheck
-    requires { blockLength n512r12 ≤ length hard.now }
-    ensures { first_of result ≡ firstMasked 1 (checks n512r12) hard.now }
+    requires { block_length n512r12 ≤ length hard.now }
+    ensures { first_of result ≡ first_masked 1 (checks n512r12) hard.now }
 {
     stairs::first_row(3, 256, 256, &N512R12_TAPS, hard)
 }
 
 fn row_n576r23(hard: &[u8]) -> FirstCheck
-    requires { blockLength n576r23 ≤ length hard.now }
-    ensures { first_of result ≡ firstMasked 1 (checks n576r23) hard.now }
+    requires { block_length n576r23 ≤ length hard.now }
+    ensures { first_of result ≡ first_masked 1 (checks n576r23) hard.now }
 {
     stairs::first_row(6, 384, 192, &N576R23_TAPS, hard)
 }
 
 fn row_n512r34(hard: &[u8]) -> FirstCheck
-    requires { blockLength n512r34 ≤ length hard.now }
-    ensures { first_of result ≡ firstMasked 1 (checks n512r34) hard.now }
+    requires { block_length n512r34 ≤ length hard.now }
+    ensures { first_of result ≡ first_masked 1 (checks n512r34) hard.now }
 {
     stairs::first_row(9, 384, 128, &N512R34_TAPS, hard)
 }
 
 // The first of the unsatisfied checks.
 pub fn first(code: u32, hard: &[u8]) -> FirstCheck
-    requires { blockLength (code_of code) ≤ length hard.now }
-    ensures { first_of result ≡ firstMasked 1 (checks (code_of code)) hard.now }
+    requires { block_length (code_of code) ≤ length hard.now }
+    ensures { first_of result ≡ first_masked 1 (checks (code_of code)) hard.now }
 {
     if code == 0 {
         return row_n512r12(hard);
@@ -93,8 +93,8 @@ pub fn first(code: u32, hard: &[u8]) -> FirstCheck
 
 // Both: the scan is spared where the count is 0.
 pub fn counted(code: u32, hard: &[u8]) -> Counted
-    requires { blockLength (code_of code) ≤ length hard.now }
-    ensures { syndromeOf result ≡ syndromeMasked 1 (checks (code_of code)) hard.now }
+    requires { block_length (code_of code) ≤ length hard.now }
+    ensures { syndrome_of result ≡ syndrome_masked 1 (checks (code_of code)) hard.now }
 {
     let count = count(code, hard);
     if count == 0 {

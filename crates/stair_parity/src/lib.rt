@@ -1,14 +1,14 @@
 // The parity bits of a staircase code, filled in row by row after the message bytes: a row has `width` message positions in a table.
 // The bit before is carried along from row to row.
 ghost use Rattle.std.specs.Prelude.{◌≡◌, ◌+◌, ◌≤◌, length};
-ghost use Rattle.staircase.specs.Shape.{stairRows};
-ghost use Rattle.stairs.specs.Stairs.{bitBefore};
+ghost use Rattle.staircase.specs.Shape.{stair_rows};
+ghost use Rattle.stairs.specs.Stairs.{bit_before};
 ghost use Rattle.stair_parity.specs.Filling.{Part, filled};
 
 // The bit before parity bit i: none for row 0.
 fn bit_before(k: usize, i: usize, bytes: &[u8]) -> u8
     requires { k + i ≤ length bytes.now }
-    ensures { result ≡ bitBefore k i bytes.now }
+    ensures { result ≡ bit_before k i bytes.now }
 {
     if i == 0 {
         return 0;
@@ -20,7 +20,7 @@ fn bit_before(k: usize, i: usize, bytes: &[u8]) -> u8
 // before.
 fn fill_rows(width: usize, k: usize, first: usize, n: usize, taps: &[u16], codeword: &mut [u8])
     requires { Part k width first n (length codeword.old) taps.now }
-    ensures { codeword.new ≡ filled (stairRows k width taps.now first n) (k + first) codeword.old }
+    ensures { codeword.new ≡ filled (stair_rows k width taps.now first n) (k + first) codeword.old }
 {
     let end = first + n;
     let mut before = bit_before(k, first, codeword);
@@ -38,7 +38,7 @@ fn fill_rows(width: usize, k: usize, first: usize, n: usize, taps: &[u16], codew
 // The same with the widths of the codes as numbers that the compiler sees.
 fn fill_part(width: usize, k: usize, first: usize, n: usize, taps: &[u16], codeword: &mut [u8])
     requires { Part k width first n (length codeword.old) taps.now }
-    ensures { codeword.new ≡ filled (stairRows k width taps.now first n) (k + first) codeword.old }
+    ensures { codeword.new ≡ filled (stair_rows k width taps.now first n) (k + first) codeword.old }
 {
     if width == 3 {
         return fill_rows(3, k, first, n, taps, codeword);
@@ -56,7 +56,7 @@ fn fill_part(width: usize, k: usize, first: usize, n: usize, taps: &[u16], codew
 // and reads no table.
 pub fn fill_four(width: usize, k: usize, first: usize, n: usize, taps: &[u16], codeword: &mut [u8])
     requires { Part k width first (n + n + n + n) (length codeword.old) taps.now }
-    ensures { codeword.new ≡ filled (stairRows k width taps.now first (n + n + n + n)) (k + first) codeword.old }
+    ensures { codeword.new ≡ filled (stair_rows k width taps.now first (n + n + n + n)) (k + first) codeword.old }
 {
     let second = first + n;
     let third = second + n;

@@ -5,17 +5,17 @@ use mathlib.Core.List.{List, [], ◌∷◌}
 use Prim.Native.Nat.{ℕ}
 use Rattle.columns.specs.Rows.{holds}
 use Rattle.tanner.specs.Checks.{parity, low_bits}
-use Rattle.staircase.specs.Staircase.{taps, parityEntries, checkRow, checkRows, checksOf, parityBits, encoded}
+use Rattle.staircase.specs.Staircase.{taps, parity_entries, check_row, check_rows, checks_of, parity_bits, encoded}
 
 abbrev small : List (List ℕ)
 small = (0 ∷ 1 ∷ []) ∷ (1 ∷ 2 ∷ []) ∷ (0 ∷ 2 ∷ []) ∷ []
 
 -- "A row lists message columns ascending, then K+i, then K+i-1", and row 0 has one parity entry
-pub rows-listed : checksOf 3 3 small ≡ (0 ∷ 2 ∷ 3 ∷ []) ∷ (0 ∷ 1 ∷ 4 ∷ 3 ∷ []) ∷ (1 ∷ 2 ∷ 5 ∷ 4 ∷ []) ∷ []
-unfolding checkRows checkRow taps parityEntries holds
-rows-listed = refl
+pub rows_listed : checks_of 3 3 small ≡ (0 ∷ 2 ∷ 3 ∷ []) ∷ (0 ∷ 1 ∷ 4 ∷ 3 ∷ []) ∷ (1 ∷ 2 ∷ 5 ∷ 4 ∷ []) ∷ []
+unfolding check_rows check_row taps parity_entries holds
+rows_listed = refl
 
 -- bytes 1, 2 and 3 are sent whole, and their low bits 1, 0 and 1 make the parity bits 0, 1 and 0
 pub bytes-encoded : encoded 3 small (1 ∷ 2 ∷ 3 ∷ []) ≡ 1 ∷ 2 ∷ 3 ∷ 0 ∷ 1 ∷ 0 ∷ []
-unfolding encoded parityBits taps parity low_bits holds
+unfolding encoded parity_bits taps parity low_bits holds
 bytes-encoded = refl

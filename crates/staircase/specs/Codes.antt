@@ -3,7 +3,7 @@ use Rattle.std.specs.Prelude.{List, reverse, ℕ, zero, suc}
 use Rattle.construction.specs.Columns.{made}
 use Rattle.construction.specs.Codes.{Code, n512r12, n576r23, n512r34}
 use Rattle.tanner.specs.Checks.{Checks}
-use Rattle.staircase.specs.Staircase.{checksOf}
+use Rattle.staircase.specs.Staircase.{checks_of}
 
 -- "Number 0 is `N512R12`, 1 is `N576R23`, 2 is `N512R34`" (any other number is refused)
 abbrev pub code_of : ℕ → Code
@@ -16,4 +16,4 @@ unfoldable pub columns : Code → List (List ℕ)
 columns c = reverse (made c.k c.m c.seed).columns
 
 unfoldable pub checks : Code → Checks
-checks c = checksOf c.k c.m (columns c)
+checks c = checks_of c.k c.m (columns c)

@@ -10,29 +10,29 @@ taps i j [] = []
 taps i j (c ∷ cs) = let more = taps i (suc j) cs in cond (holds c i) (j ∷ more) more
 
 -- "then K+i, then K+i-1": row 0 has one parity entry, every other row two
-unfoldable pub parityEntries : ℕ → ℕ → List ℕ
-parityEntries k zero = k ∷ []
-parityEntries k (suc i) = (k + suc i) ∷ ((k + i) ∷ [])
+unfoldable pub parity_entries : ℕ → ℕ → List ℕ
+parity_entries k zero = k ∷ []
+parity_entries k (suc i) = (k + suc i) ∷ ((k + i) ∷ [])
 
-unfoldable pub checkRow : ℕ → List (List ℕ) → ℕ → List ℕ
-checkRow k cols i = taps i 0 cols ++ parityEntries k i
+unfoldable pub check_row : ℕ → List (List ℕ) → ℕ → List ℕ
+check_row k cols i = taps i 0 cols ++ parity_entries k i
 
 -- n rows from row i on
-unfoldable pub checkRows : ℕ → List (List ℕ) → ℕ → ℕ → Checks
-checkRows k cols i zero = []
-checkRows k cols i (suc n) = checkRow k cols i ∷ checkRows k cols (suc i) n
+unfoldable pub check_rows : ℕ → List (List ℕ) → ℕ → ℕ → Checks
+check_rows k cols i zero = []
+check_rows k cols i (suc n) = check_row k cols i ∷ check_rows k cols (suc i) n
 
 -- the m checks of a code with k message columns
-abbrev pub checksOf : ℕ → ℕ → List (List ℕ) → Checks
-checksOf k m cols = checkRows k cols 0 m
+abbrev pub checks_of : ℕ → ℕ → List (List ℕ) → Checks
+checks_of k m cols = check_rows k cols 0 m
 
 -- n parity bits from row i on: each is the parity of the message bits in its row and of the parity bit before it, p
-unfoldable pub parityBits : List (List ℕ) → Word → ℕ → ℕ → ℕ → List ℕ
-parityBits cols message i zero p = []
-parityBits cols message i (suc n) p =
+unfoldable pub parity_bits : List (List ℕ) → Word → ℕ → ℕ → ℕ → List ℕ
+parity_bits cols message i zero p = []
+parity_bits cols message i (suc n) p =
     let q = (parity (taps i 0 cols) message + p) % 2 in
-    q ∷ parityBits cols message (suc i) n q
+    q ∷ parity_bits cols message (suc i) n q
 
 -- "`encode` copies message bytes whole and uses their low bits for parity."
 unfoldable pub encoded : ℕ → List (List ℕ) → List ℕ → List ℕ
-encoded m cols message = message ++ parityBits cols (low_bits message) 0 m 0
+encoded m cols message = message ++ parity_bits cols (low_bits message) 0 m 0

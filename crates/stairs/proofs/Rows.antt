@@ -8,12 +8,12 @@ use native.Mathlib.Numerals.{add-one}
 use native.Mathlib.Omega.{arith}
 use lib.Bits.{bit_xor, xor_zero_r}
 use lib.ListN.{get_or, take, drop}
-use Rattle.tanner.specs.Checks.{xorFrom}
+use Rattle.tanner.specs.Checks.{xor_from}
 use Rattle.lists.specs.Below.{Below}
 use Rattle.lists.proofs.Below.{below-part, below_less}
-use Rattle.staircase.specs.Staircase.{parityEntries}
-use Rattle.staircase.specs.Shape.{tapsAt, stairRow, stairRows, stairs}
-use Rattle.stairs.specs.Stairs.{bitBefore}
+use Rattle.staircase.specs.Staircase.{parity_entries}
+use Rattle.staircase.specs.Shape.{taps_at, stair_row, stair_rows, stairs}
+use Rattle.stairs.specs.Stairs.{bit_before}
 
 -- ---- the row's place in the table
 
@@ -25,9 +25,9 @@ row_fits width m i a n h e s =
 pub row_next : (width i a : ℕ) → a ≡ i * width → a + width ≡ (i + 1) * width
 row_next width i a e = rw add-one (omega (arith, suc-mul i width))
 
-pub row-part : (width i a : ℕ) (table : List ℕ) → a ≡ i * width → take (a + width - a) (drop a table) ≡ tapsAt width table i
-unfolding tapsAt
-row-part width i a table e = rw (add-sub_cancel_left a width, e)
+pub row_part : (width i a : ℕ) (table : List ℕ) → a ≡ i * width → take (a + width - a) (drop a table) ≡ taps_at width table i
+unfolding taps_at
+row_part width i a table e = rw (add-sub_cancel_left a width, e)
 
 pub row_low : (k n width a : ℕ) (table : List ℕ) → k ≤ n → Below k table → Below n (take (a + width - a) (drop a table))
 row_low k n width a table h low = below_less k n _ h (below-part k table a (a + width) low)
@@ -35,47 +35,47 @@ row_low k n width a table h low = below_less k n _ h (below-part k table a (a + 
 -- ---- the rows that are left
 
 pub rows_more : (k width m : ℕ) (table : List ℕ) (i : ℕ) → i < m
-    → stairRows k width table i (m - i) ≡ stairRow k width table i ∷ stairRows k width table (i + 1) (m - (i + 1))
-unfolding stairRows
+    → stair_rows k width table i (m - i) ≡ stair_row k width table i ∷ stair_rows k width table (i + 1) (m - (i + 1))
+unfolding stair_rows
 rows_more k width m table i h =
     let e : m - i ≡ suc (m - (i + 1)) = omega arith in
     rw (e, add-one i)
 
-pub rows-done : (k width m : ℕ) (table : List ℕ) (i : ℕ) → m ≤ i → stairRows k width table i (m - i) ≡ []
-unfolding stairRows
-rows-done k width m table i h =
+pub rows_done : (k width m : ℕ) (table : List ℕ) (i : ℕ) → m ≤ i → stair_rows k width table i (m - i) ≡ []
+unfolding stair_rows
+rows_done k width m table i h =
     let e : m - i ≡ 0 = omega arith in
     rw e
 
-pub rows_all : (k width m : ℕ) (table : List ℕ) → stairRows k width table 0 (m - 0) ≡ stairs k width m table
+pub rows_all : (k width m : ℕ) (table : List ℕ) → stair_rows k width table 0 (m - 0) ≡ stairs k width m table
 rows_all k width m table =
     let e : m - 0 ≡ m = omega arith in
     rw e
 
 -- ---- the XOR of a row
 
-xor-append : (x : ℕ) (ps qs bytes : List ℕ) → xorFrom x (ps ++ qs) bytes ≡ xorFrom (xorFrom x ps bytes) qs bytes
-unfolding xorFrom
-xor-append x [] qs bytes = refl
-xor-append x (p ∷ ps) qs bytes = xor-append (bit_xor x (get_or bytes p 0)) ps qs bytes
+xor_append : (x : ℕ) (ps qs bytes : List ℕ) → xor_from x (ps ++ qs) bytes ≡ xor_from (xor_from x ps bytes) qs bytes
+unfolding xor_from
+xor_append x [] qs bytes = refl
+xor_append x (p ∷ ps) qs bytes = xor_append (bit_xor x (get_or bytes p 0)) ps qs bytes
 
-entries-xor : (k i x : ℕ) (bytes : List ℕ) → xorFrom x (parityEntries k i) bytes ≡ bit_xor (bit_xor x (get_or bytes (k + i) 0)) (bitBefore k i bytes)
-unfolding xorFrom parityEntries bitBefore
+entries-xor : (k i x : ℕ) (bytes : List ℕ) → xor_from x (parity_entries k i) bytes ≡ bit_xor (bit_xor x (get_or bytes (k + i) 0)) (bit_before k i bytes)
+unfolding xor_from parity_entries bit_before
 entries-xor k zero x bytes = rw (add-zero k, xor_zero_r (bit_xor x (get_or bytes k 0)))
 entries-xor k (suc i) x bytes = refl
 
 -- its message positions, then its own parity bit, then the one before
-pub row-xor : (k width : ℕ) (table bytes : List ℕ) (i a x before : ℕ) → a ≡ i * width → x ≡ xorFrom 0 (take (a + width - a) (drop a table)) bytes
-    → before ≡ bitBefore k i bytes
-    → bit_xor (bit_xor x (get_or bytes (k + i) 0)) before ≡ xorFrom 0 (stairRow k width table i) bytes
+pub row-xor : (k width : ℕ) (table bytes : List ℕ) (i a x before : ℕ) → a ≡ i * width → x ≡ xor_from 0 (take (a + width - a) (drop a table)) bytes
+    → before ≡ bit_before k i bytes
+    → bit_xor (bit_xor x (get_or bytes (k + i) 0)) before ≡ xor_from 0 (stair_row k width table i) bytes
 row-xor k width table bytes i a x before e f b =
-    let whole : x ≡ xorFrom 0 (tapsAt width table i) bytes = f ∙ ap (λ (ps : List ℕ). xorFrom 0 ps bytes) (row-part width i a table e) in
-    rw (whole, b) (sym (xor-append 0 (tapsAt width table i) (parityEntries k i) bytes ∙ entries-xor k i (xorFrom 0 (tapsAt width table i) bytes) bytes))
+    let whole : x ≡ xor_from 0 (taps_at width table i) bytes = f ∙ ap (λ (ps : List ℕ). xor_from 0 ps bytes) (row_part width i a table e) in
+    rw (whole, b) (sym (xor_append 0 (taps_at width table i) (parity_entries k i) bytes ∙ entries-xor k i (xor_from 0 (taps_at width table i) bytes) bytes))
 
-pub before_more : (k i : ℕ) (bytes : List ℕ) → get_or bytes (k + i) 0 ≡ bitBefore k (i + 1) bytes
-unfolding bitBefore
+pub before_more : (k i : ℕ) (bytes : List ℕ) → get_or bytes (k + i) 0 ≡ bit_before k (i + 1) bytes
+unfolding bit_before
 before_more k i bytes = rw add-one
 
-pub before-none : (k : ℕ) (bytes : List ℕ) → 0 ≡ bitBefore k 0 bytes
-unfolding bitBefore
+pub before-none : (k : ℕ) (bytes : List ℕ) → 0 ≡ bit_before k 0 bytes
+unfolding bit_before
 before-none k bytes = refl

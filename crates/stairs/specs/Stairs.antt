@@ -11,6 +11,6 @@ pub record Stairs (k width m n : ℕ) (table : List ℕ) : Type 0 where
   pub few : m < 65536
 
 -- the bit before parity bit i: none for row 0
-unfoldable pub bitBefore : ℕ → ℕ → Word → ℕ
-bitBefore k zero w = 0
-bitBefore k (suc i) w = get_or w (k + i) 0
+unfoldable pub bit_before : ℕ → ℕ → Word → ℕ
+bit_before k zero w = 0
+bit_before k (suc i) w = get_or w (k + i) 0

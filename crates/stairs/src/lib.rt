@@ -1,7 +1,7 @@
 // The first open row by a staircase code's shape: every row has `width` message positions in a table, then its own parity bit and the one before.
 // The bit before is carried along, so that each byte of the parity is read once.
 ghost use Rattle.std.specs.Prelude.{◌≡◌, length};
-ghost use Rattle.tanner.specs.Masked.{firstMasked};
+ghost use Rattle.tanner.specs.Masked.{first_masked};
 ghost use Rattle.tanner.specs.Found.{first_of};
 ghost use Rattle.staircase.specs.Shape.{stairs};
 ghost use Rattle.stairs.specs.Stairs.{Stairs};
@@ -11,7 +11,7 @@ use tanner::FirstCheck;
 // The first row that the low bits leave unsatisfied: the scan ends there.
 pub fn first_row(width: usize, k: usize, m: usize, taps: &[u16], bytes: &[u8]) -> FirstCheck
     requires { Stairs k width m (length bytes.now) taps.now }
-    ensures { first_of result ≡ firstMasked 1 (stairs k width m taps.now) bytes.now }
+    ensures { first_of result ≡ first_masked 1 (stairs k width m taps.now) bytes.now }
 {
     let mut last: u8 = 0;
     let mut a = 0;

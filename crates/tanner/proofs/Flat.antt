@@ -8,7 +8,7 @@ use native.Mathlib.Omega.{arith}
 use lib.ListN.{length, get_or, take, drop, length-append}
 use lib.Seq.{take_at, drop_at}
 use Rattle.tanner.specs.Checks.{Checks}
-use Rattle.tanner.specs.Flat.{joined, ends, offsets, cut, rows_from, rows_of, Within, FlatChecks, places, edgesFrom}
+use Rattle.tanner.specs.Flat.{joined, ends, offsets, cut, rows_from, rows_of, Within, FlatChecks, places, edges_from}
 use Rattle.lists.specs.Below.{Below}
 use Rattle.tanner.proofs.Count.{AllBelow, none, more}
 use Rattle.lists.proofs.Below.{below_left, below_right}
@@ -26,9 +26,9 @@ cut-joined (r ∷ rs) p a e =
     in
     rw (k, here, rest)
 
-pub rows-laid : (rs : Checks) → rows_of (offsets rs) (joined rs) ≡ rs
+pub rows_laid : (rs : Checks) → rows_of (offsets rs) (joined rs) ≡ rs
 unfolding rows_from
-rows-laid rs = cut-joined rs [] 0 refl
+rows_laid rs = cut-joined rs [] 0 refl
 
 -- ---- the arrays of a check list meet what the counting functions ask
 
@@ -37,31 +37,31 @@ unfolding ends
 ends-length a [] = refl
 ends-length a (r ∷ rs) = ap suc (ends-length (a + length r) rs)
 
-ends-within : (rs : Checks) (a k : ℕ) → k < length (ends a rs)
+ends_within : (rs : Checks) (a k : ℕ) → k < length (ends a rs)
     → (get_or (a ∷ ends a rs) k 0 ≤ get_or (ends a rs) k 0) × (get_or (ends a rs) k 0 ≤ a + length (joined rs))
 unfolding ends joined
-ends-within [] a k h = omega arith
-ends-within (r ∷ rs) a zero h = simp length-append (omega arith)
-ends-within (r ∷ rs) a (suc k) h = simp length-append (omega (arith, ends-within rs (a + length r) k (omega arith)))
+ends_within [] a k h = omega arith
+ends_within (r ∷ rs) a zero h = simp length-append (omega arith)
+ends_within (r ∷ rs) a (suc k) h = simp length-append (omega (arith, ends_within rs (a + length r) k (omega arith)))
 
-pub offsets-within : (rs : Checks) → Within (offsets rs) (length (joined rs))
+pub offsets_within : (rs : Checks) → Within (offsets rs) (length (joined rs))
 unfolding Within
-offsets-within rs k h = rw add-one (omega (arith, ends-within rs 0 k (le_of_suc-le-suc (rw add-one at h))))
+offsets_within rs k h = rw add-one (omega (arith, ends_within rs 0 k (le_of_suc-le-suc (rw add-one at h))))
 
-pub flat-checks : (rs : Checks) (n : ℕ) → length rs < 65536 → Below n (joined rs) → FlatChecks (offsets rs) (joined rs) n
-flat-checks rs n few low = record {
+pub flat_checks : (rs : Checks) (n : ℕ) → length rs < 65536 → Below n (joined rs) → FlatChecks (offsets rs) (joined rs) n
+flat_checks rs n few low = record {
   some = omega arith;
   few = omega (arith, ends-length 0 rs);
-  within = offsets-within rs;
+  within = offsets_within rs;
   low = low;
 }
 
 -- each check covers positions below n where the flat list holds such alone
 
-pub all-below : (n : ℕ) (rs : Checks) → Below n (joined rs) → AllBelow n rs
+pub all_below : (n : ℕ) (rs : Checks) → Below n (joined rs) → AllBelow n rs
 unfolding joined
-all-below n [] low = none
-all-below n (r ∷ rs) low = more (below_left n r (joined rs) low) (all-below n rs (below_right n r (joined rs) low))
+all_below n [] low = none
+all_below n (r ∷ rs) low = more (below_left n r (joined rs) low) (all_below n rs (below_right n r (joined rs) low))
 
 -- ---- one list of those laid flat
 
@@ -74,17 +74,17 @@ cut_at (e ∷ s) flat a (suc b) h = cut_at s flat e b (omega arith)
 pub row_at : (rs : Checks) (b : ℕ) → b < length rs
     → take (get_or (offsets rs) (b + 1) 0 - get_or (offsets rs) b 0) (drop (get_or (offsets rs) b 0) (joined rs)) ≡ get_or rs b []
 unfolding rows_from
-row_at rs b h = rw (add-one, ← cut_at (ends 0 rs) (joined rs) 0 b (omega (arith, ends-length 0 rs))) (ap (λ (l : Checks). get_or l b []) (rows-laid rs))
+row_at rs b h = rw (add-one, ← cut_at (ends 0 rs) (joined rs) 0 b (omega (arith, ends-length 0 rs))) (ap (λ (l : Checks). get_or l b []) (rows_laid rs))
 
 -- ---- each position's edges
 
-pub edges-length : (p n : ℕ) (flat : List ℕ) → length (edgesFrom p n flat) ≡ n
-unfolding edgesFrom
-edges-length p zero flat = refl
-edges-length p (suc n) flat = ap suc (edges-length (suc p) n flat)
+pub edges_length : (p n : ℕ) (flat : List ℕ) → length (edges_from p n flat) ≡ n
+unfolding edges_from
+edges_length p zero flat = refl
+edges_length p (suc n) flat = ap suc (edges_length (suc p) n flat)
 
-pub edges_at : (p n b : ℕ) (flat : List ℕ) → b < n → get_or (edgesFrom p n flat) b [] ≡ places (p + b) 0 flat
-unfolding edgesFrom
+pub edges_at : (p n b : ℕ) (flat : List ℕ) → b < n → get_or (edges_from p n flat) b [] ≡ places (p + b) 0 flat
+unfolding edges_from
 edges_at p zero b flat h = absurd (omega arith)
 edges_at p (suc n) zero flat h = rw add-zero
 edges_at p (suc n) (suc b) flat h = rw (add-suc, ← suc-add) (edges_at (suc p) n b flat (omega arith))

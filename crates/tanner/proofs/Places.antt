@@ -13,11 +13,11 @@ use lib.Seq.{split_at, get_or_at, length-take-le}
 use Rattle.tanner.specs.Flat.{places}
 
 -- places of two lists, one after the other
-pub places-append : (p e : ℕ) (xs ys : List ℕ) → places p e (xs ++ ys) ≡ places p e xs ++ places p (e + length xs) ys
+pub places_append : (p e : ℕ) (xs ys : List ℕ) → places p e (xs ++ ys) ≡ places p e xs ++ places p (e + length xs) ys
 unfolding places
-places-append p e [] ys = rw add-zero
-places-append p e (x ∷ xs) ys =
-    let ih : places p (suc e) (xs ++ ys) ≡ places p (suc e) xs ++ places p (e + suc (length xs)) ys = rw (add-suc, ← suc-add) (places-append p (suc e) xs ys) in
+places_append p e [] ys = rw add-zero
+places_append p e (x ∷ xs) ys =
+    let ih : places p (suc e) (xs ++ ys) ≡ places p (suc e) xs ++ places p (e + suc (length xs)) ys = rw (add-suc, ← suc-add) (places_append p (suc e) xs ys) in
     by (eqb x p) ih
   where
     by : (t : Bool) → places p (suc e) (xs ++ ys) ≡ places p (suc e) xs ++ places p (e + suc (length xs)) ys
@@ -27,9 +27,9 @@ places-append p e (x ∷ xs) ys =
     by false h = h
 
 -- p itself stands at e
-pub places-here : (p e : ℕ) (ys : List ℕ) → places p e (p ∷ ys) ≡ e ∷ places p (suc e) ys
+pub places_here : (p e : ℕ) (ys : List ℕ) → places p e (p ∷ ys) ≡ e ∷ places p (suc e) ys
 unfolding places
-places-here p e ys = simp (eq-eqb p p refl)
+places_here p e ys = simp (eq-eqb p p refl)
 
 -- ---- every place is one where p stands
 
@@ -43,18 +43,18 @@ pub record Stands (p e : ℕ) (xs : List ℕ) (x : ℕ) : Type 0 where
 later : (p e y x : ℕ) (xs : List ℕ) → Stands p (suc e) xs x → Stands p e (y ∷ xs) x
 later p e y x xs s = record { index = suc s.index; place = omega (arith, s.place); inside = omega (arith, s.inside); holds = s.holds }
 
-stand-by : (p e y : ℕ) (xs : List ℕ) (t : Bool) → eqb y p ≡ t
+stand_by : (p e y : ℕ) (xs : List ℕ) (t : Bool) → eqb y p ≡ t
     → ((k : ℕ) → k < length (places p (suc e) xs) → Stands p (suc e) xs (get_or (places p (suc e) xs) k 0))
     → (k : ℕ) → k < length (cond t (e ∷ places p (suc e) xs) (places p (suc e) xs))
     → Stands p e (y ∷ xs) (get_or (cond t (e ∷ places p (suc e) xs) (places p (suc e) xs)) k 0)
-stand-by p e y xs true t f zero h = record { index = 0; place = omega arith; inside = omega arith; holds = eqb-true y p t }
-stand-by p e y xs true t f (suc k) h = later p e y _ xs (f k (omega arith))
-stand-by p e y xs false t f k h = later p e y _ xs (f k h)
+stand_by p e y xs true t f zero h = record { index = 0; place = omega arith; inside = omega arith; holds = eqb-true y p t }
+stand_by p e y xs true t f (suc k) h = later p e y _ xs (f k (omega arith))
+stand_by p e y xs false t f k h = later p e y _ xs (f k h)
 
-pub places-stand : (p e : ℕ) (xs : List ℕ) (k : ℕ) → k < length (places p e xs) → Stands p e xs (get_or (places p e xs) k 0)
+pub places_stand : (p e : ℕ) (xs : List ℕ) (k : ℕ) → k < length (places p e xs) → Stands p e xs (get_or (places p e xs) k 0)
 unfolding places
-places-stand p e [] k h = absurd (omega arith)
-places-stand p e (y ∷ xs) k h = stand-by p e y xs (eqb y p) refl (places-stand p (suc e) xs) k h
+places_stand p e [] k h = absurd (omega arith)
+places_stand p e (y ∷ xs) k h = stand_by p e y xs (eqb y p) refl (places_stand p (suc e) xs) k h
 
 -- ---- the place of an entry, by its rank
 
@@ -67,8 +67,8 @@ module _ (flat : List ℕ) (e : ℕ) (h : e < length flat) where
   split =
       let p = get_or flat e 0 in
       ap (places p 0) (split_at flat e 0 h)
-      ∙ places-append p 0 (take e flat) (p ∷ drop (suc e) flat)
-      ∙ rw (zero-add, length-take-le e flat (omega arith)) (ap (λ (l : List ℕ). places p 0 (take e flat) ++ l) (places-here p e (drop (suc e) flat)))
+      ∙ places_append p 0 (take e flat) (p ∷ drop (suc e) flat)
+      ∙ rw (zero-add, length-take-le e flat (omega arith)) (ap (λ (l : List ℕ). places p 0 (take e flat) ++ l) (places_here p e (drop (suc e) flat)))
 
   pub rank-inside : rank < length (places (get_or flat e 0) 0 flat)
   rank-inside = rw split (simp length-append (omega arith))

@@ -10,17 +10,17 @@ use lib.Dec.{eqb}
 use lib.ListN.{length, get_or, take, drop, drop_of_length-le}
 use lib.Seq.{drop-cons}
 use borrow.Author.Tests.{eq-eqb, ne_eqb}
-use Rattle.tanner.specs.Checks.{Checks, First, check, none, xorFrom, nonzero, firstBy}
-use Rattle.tanner.specs.Masked.{countMasked, measured}
+use Rattle.tanner.specs.Checks.{Checks, First, check, none, xor_from, nonzero, first_by}
+use Rattle.tanner.specs.Masked.{count_masked, measured}
 use Rattle.tanner.specs.Flat.{cut, rows_from}
 
-pub xor-more : (ps bytes : List ℕ) (x i z : ℕ) → i < length ps → xorFrom x (drop i ps) bytes ≡ z
-    → xorFrom (bit_xor x (get_or bytes (get_or ps i 0) 0)) (drop (i + 1) ps) bytes ≡ z
-unfolding xorFrom
-xor-more ps bytes x i z h e = rw (drop-cons ps i 0, ← add-one) at e
+pub xor_more : (ps bytes : List ℕ) (x i z : ℕ) → i < length ps → xor_from x (drop i ps) bytes ≡ z
+    → xor_from (bit_xor x (get_or bytes (get_or ps i 0) 0)) (drop (i + 1) ps) bytes ≡ z
+unfolding xor_from
+xor_more ps bytes x i z h e = rw (drop-cons ps i 0, ← add-one) at e
 
-pub xor-done : (ps bytes : List ℕ) (x i z : ℕ) → length ps ≤ i → xorFrom x (drop i ps) bytes ≡ z → x ≡ z
-unfolding xorFrom
+pub xor-done : (ps bytes : List ℕ) (x i z : ℕ) → length ps ≤ i → xor_from x (drop i ps) bytes ≡ z → x ≡ z
+unfolding xor_from
 xor-done ps bytes x i z h e = rw (drop_of_length-le ps h) at e
 
 pub rows_more : (s f : List ℕ) (c : ℕ) → c + 1 < length s
@@ -28,41 +28,41 @@ pub rows_more : (s f : List ℕ) (c : ℕ) → c + 1 < length s
 unfolding rows_from cut
 rows_more s f c h = rw (drop-cons s (c + 1) 0, add-one (c + 1))
 
-pub rows-done : (s f : List ℕ) (c : ℕ) → length s ≤ c + 1 → rows_from s c f ≡ []
+pub rows_done : (s f : List ℕ) (c : ℕ) → length s ≤ c + 1 → rows_from s c f ≡ []
 unfolding rows_from cut
-rows-done s f c h = rw (drop_of_length-le s h)
+rows_done s f c h = rw (drop_of_length-le s h)
 
 -- one turn of a count: the next of the checks that are left
-module _ (mask : ℕ) (bytes r : List ℕ) (rest rs : Checks) (u z x : ℕ) (h : rest ≡ r ∷ rs) (e : x ≡ xorFrom 0 r bytes)
-    (i : u + countMasked mask rest bytes ≡ z) where
-  counted : u + (nonzero (bit_and x mask) + countMasked mask rs bytes) ≡ z
-  unfolding countMasked
+module _ (mask : ℕ) (bytes r : List ℕ) (rest rs : Checks) (u z x : ℕ) (h : rest ≡ r ∷ rs) (e : x ≡ xor_from 0 r bytes)
+    (i : u + count_masked mask rest bytes ≡ z) where
+  counted : u + (nonzero (bit_and x mask) + count_masked mask rs bytes) ≡ z
+  unfolding count_masked
   counted = rw e (rw h at i)
 
-  pub count-more : (bit_and x mask ≡ 0 → ⊥) → u + 1 + countMasked mask rs bytes ≡ z
+  pub count-more : (bit_and x mask ≡ 0 → ⊥) → u + 1 + count_masked mask rs bytes ≡ z
   count-more n = omega (arith, simp (ne_eqb _ _ n) at counted)
 
-  pub count_same : bit_and x mask ≡ 0 → u + countMasked mask rs bytes ≡ z
+  pub count_same : bit_and x mask ≡ 0 → u + count_masked mask rs bytes ≡ z
   count_same n = omega (arith, simp (eq-eqb _ _ n) at counted)
 
-pub count-done : (mask : ℕ) (bytes : List ℕ) (rest : Checks) (u z : ℕ) → rest ≡ [] → u + countMasked mask rest bytes ≡ z → u ≡ z
-unfolding countMasked
+pub count-done : (mask : ℕ) (bytes : List ℕ) (rest : Checks) (u z : ℕ) → rest ≡ [] → u + count_masked mask rest bytes ≡ z → u ≡ z
+unfolding count_masked
 count-done mask bytes rest u z h e = omega (arith, rw h at e)
 
 -- ---- one turn of the scan for the first check
 
-module _ (mask : ℕ) (bytes r : List ℕ) (rest rs : Checks) (c x : ℕ) (z : First) (h : rest ≡ r ∷ rs) (e : x ≡ xorFrom 0 r bytes)
-    (i : firstBy (measured mask bytes) c rest ≡ z) where
-  scanned : cond (eqb (nonzero (bit_and x mask)) 0) (firstBy (measured mask bytes) (suc c) rs) (check c) ≡ z
-  unfolding firstBy
+module _ (mask : ℕ) (bytes r : List ℕ) (rest rs : Checks) (c x : ℕ) (z : First) (h : rest ≡ r ∷ rs) (e : x ≡ xor_from 0 r bytes)
+    (i : first_by (measured mask bytes) c rest ≡ z) where
+  scanned : cond (eqb (nonzero (bit_and x mask)) 0) (first_by (measured mask bytes) (suc c) rs) (check c) ≡ z
+  unfolding first_by
   scanned = rw e (rw h at i)
 
   pub first-here : (bit_and x mask ≡ 0 → ⊥) → check c ≡ z
   first-here n = simp (ne_eqb _ _ n) at scanned
 
-  pub first-later : bit_and x mask ≡ 0 → firstBy (measured mask bytes) (c + 1) rs ≡ z
-  first-later n = subst (λ (k : ℕ). firstBy (measured mask bytes) k rs ≡ z) (sym (add-one c)) (simp (eq-eqb _ _ n) at scanned)
+  pub first-later : bit_and x mask ≡ 0 → first_by (measured mask bytes) (c + 1) rs ≡ z
+  first-later n = subst (λ (k : ℕ). first_by (measured mask bytes) k rs ≡ z) (sym (add-one c)) (simp (eq-eqb _ _ n) at scanned)
 
-pub first-nowhere : (mask : ℕ) (bytes : List ℕ) (rest : Checks) (c : ℕ) (z : First) → rest ≡ [] → firstBy (measured mask bytes) c rest ≡ z → none ≡ z
-unfolding firstBy
-first-nowhere mask bytes rest c z h e = rw h at e
+pub first_nowhere : (mask : ℕ) (bytes : List ℕ) (rest : Checks) (c : ℕ) (z : First) → rest ≡ [] → first_by (measured mask bytes) c rest ≡ z → none ≡ z
+unfolding first_by
+first_nowhere mask bytes rest c z h e = rw h at e

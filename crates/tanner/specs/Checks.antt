@@ -25,18 +25,18 @@ unfoldable pub low_bits : List ℕ → Word
 low_bits bytes = map (λ b. b % 2) bytes
 
 -- the bytes at the positions, XORed whole onto x
-unfoldable pub xorFrom : ℕ → List ℕ → List ℕ → ℕ
-xorFrom x [] bytes = x
-xorFrom x (p ∷ ps) bytes = xorFrom (bit_xor x (get_or bytes p 0)) ps bytes
+unfoldable pub xor_from : ℕ → List ℕ → List ℕ → ℕ
+xor_from x [] bytes = x
+xor_from x (p ∷ ps) bytes = xor_from (bit_xor x (get_or bytes p 0)) ps bytes
 
 -- 1 unless x is 0
 abbrev pub nonzero : ℕ → ℕ
 nonzero x = cond (eqb x 0) 0 1
 
 -- the number of checks whose bytes, XORed whole, are not 0 (document 01: "`ldpc_count_errors` XORs whole bytes: 2 counts there")
-unfoldable pub countBytes : Checks → List ℕ → ℕ
-countBytes [] bytes = 0
-countBytes (c ∷ cs) bytes = nonzero (xorFrom 0 c bytes) + countBytes cs bytes
+unfoldable pub count_bytes : Checks → List ℕ → ℕ
+count_bytes [] bytes = 0
+count_bytes (c ∷ cs) bytes = nonzero (xor_from 0 c bytes) + count_bytes cs bytes
 
 -- ---- the first check that a count includes (change request N8)
 
@@ -46,9 +46,9 @@ pub data First : Type 0 where
   none : First
 
 -- the lowest-numbered check at which the measure is not 0; the first of the checks is number c
-unfoldable pub firstBy : (List ℕ → ℕ) → ℕ → Checks → First
-firstBy measure c [] = none
-firstBy measure c (r ∷ rs) = let more = firstBy measure (suc c) rs in cond (eqb (measure r) 0) more (check c)
+unfoldable pub first_by : (List ℕ → ℕ) → ℕ → Checks → First
+first_by measure c [] = none
+first_by measure c (r ∷ rs) = let more = first_by measure (suc c) rs in cond (eqb (measure r) 0) more (check c)
 
 -- a count, and "the lowest-numbered check that the count includes, or none when it is 0"
 pub record Syndrome : Type 0 where
@@ -56,15 +56,15 @@ pub record Syndrome : Type 0 where
   pub first : First
 
 -- of a word of bits
-abbrev pub firstUnsatisfied : Checks → Word → First
-firstUnsatisfied cs w = firstBy (λ r. parity r w) 0 cs
+abbrev pub first_unsatisfied : Checks → Word → First
+first_unsatisfied cs w = first_by (λ r. parity r w) 0 cs
 
 abbrev pub syndrome : Checks → Word → Syndrome
-syndrome cs w = record { count = count cs w; first = firstUnsatisfied cs w }
+syndrome cs w = record { count = count cs w; first = first_unsatisfied cs w }
 
 -- by whole bytes
-abbrev pub syndromeOfBytes : Checks → List ℕ → Syndrome
-syndromeOfBytes cs bytes = record { count = countBytes cs bytes; first = firstBy (λ r. nonzero (xorFrom 0 r bytes)) 0 cs }
+abbrev pub syndrome_of_bytes : Checks → List ℕ → Syndrome
+syndrome_of_bytes cs bytes = record { count = count_bytes cs bytes; first = first_by (λ r. nonzero (xor_from 0 r bytes)) 0 cs }
 
 -- What it is to be the first: it is counted, and every check below it is not. None: no check is counted.
 pub data FirstIs (measure : List ℕ → ℕ) (cs : Checks) : First → Type 0 where

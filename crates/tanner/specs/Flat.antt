@@ -48,9 +48,9 @@ places p e (q ∷ qs) = let more = places p (suc e) qs in cond (eqb q p) (e ∷ 
 
 -- An edge joins a check and a position that it covers. Edges are numbered check by check, in row order.
 -- The edges of each of n positions, from position p on: a position's edges rise, so its checks do.
-unfoldable pub edgesFrom : ℕ → ℕ → List ℕ → Checks
-edgesFrom p zero flat = []
-edgesFrom p (suc n) flat = places p 0 flat ∷ edgesFrom (suc p) n flat
+unfoldable pub edges_from : ℕ → ℕ → List ℕ → Checks
+edges_from p zero flat = []
+edges_from p (suc n) flat = places p 0 flat ∷ edges_from (suc p) n flat
 
-abbrev pub bitEdges : ℕ → Checks → Checks
-bitEdges n cs = edgesFrom 0 n (joined cs)
+abbrev pub bit_edges : ℕ → Checks → Checks
+bit_edges n cs = edges_from 0 n (joined cs)

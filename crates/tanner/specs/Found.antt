@@ -12,10 +12,10 @@ abbrev pub first_of : FirstCheck → First
 first_of (first.Check c) = check c
 first_of first.Satisfied = none
 
-abbrev pub syndromeOf : Counted → Syndrome
-syndromeOf c = record { count = c.count; first = first_of c.first }
+abbrev pub syndrome_of : Counted → Syndrome
+syndrome_of c = record { count = c.count; first = first_of c.first }
 
 -- an answer holds the count and the first check
-abbrev pub countingOf : Counting → Outcome Syndrome
-countingOf (counting.Counted c) = accepted (syndromeOf c)
-countingOf (counting.Refused r) = refused (number_of r)
+abbrev pub counting_of : Counting → Outcome Syndrome
+counting_of (counting.Counted c) = accepted (syndrome_of c)
+counting_of (counting.Refused r) = refused (number_of r)

@@ -1,6 +1,6 @@
 // What is counted of a word, and the XOR of the bytes at one check's positions.
 ghost use Rattle.std.specs.Prelude.{◌≡◌, length};
-ghost use Rattle.tanner.specs.Checks.{xorFrom};
+ghost use Rattle.tanner.specs.Checks.{xor_from};
 ghost use Rattle.lists.specs.Below.{Below};
 
 use refusal::Refusal;
@@ -29,7 +29,7 @@ pub enum Counting {
 // The bytes at one check's positions, XORed whole.
 pub fn xor_at(positions: &[u16], bytes: &[u8]) -> u8
     requires { Below (length bytes.now) positions.now }
-    ensures { result ≡ xorFrom 0 positions.now bytes.now }
+    ensures { result ≡ xor_from 0 positions.now bytes.now }
 {
     let mut x: u8 = 0;
     let mut i = 0;

@@ -6,7 +6,7 @@ use Prim.Native.Nat.{ℕ, zero, suc, ◌+◌, ◌*◌, ◌/◌, ◌≤◌}
 use native.Mathlib.Omega.{arith}
 use lib.Dec.{ltb, lit≤}
 use lib.ListN.{length, length-append}
-use Rattle.text.specs.Text.{leading, decimal, hexFrom, hex, refusedWord, field, refusalLine}
+use Rattle.text.specs.Text.{leading, decimal, hex_from, hex, refused_word, field, refusal_line}
 
 pub decimal-length : (n : ℕ)
     → length (decimal n) ≡ length (leading 10000 n) + (length (leading 1000 n) + (length (leading 100 n) + (length (leading 10 n) + 1)))
@@ -17,19 +17,19 @@ pub field-length : (word : List ℕ) (n : ℕ) → length (field word n) ≡ len
 unfolding field
 field-length word n = length-append word (decimal n)
 
-one-or-none : (b : Bool) (x : ℕ) → length (cond b [] (x ∷ [])) ≤ 1
-one-or-none true x = lit≤ tt
-one-or-none false x = lit≤ tt
+one_or_none : (b : Bool) (x : ℕ) → length (cond b [] (x ∷ [])) ≤ 1
+one_or_none true x = lit≤ tt
+one_or_none false x = lit≤ tt
 
-pub leading-short : (p n : ℕ) → length (leading p n) ≤ 1
+pub leading_short : (p n : ℕ) → length (leading p n) ≤ 1
 unfolding leading
-leading-short p n = one-or-none (ltb n p) _
+leading_short p n = one_or_none (ltb n p) _
 
-pub decimal-short : (n : ℕ) → length (decimal n) ≤ 5
-decimal-short n = omega (arith, decimal-length n, leading-short 10000 n, leading-short 1000 n, leading-short 100 n, leading-short 10 n)
+pub decimal_short : (n : ℕ) → length (decimal n) ≤ 5
+decimal_short n = omega (arith, decimal-length n, leading_short 10000 n, leading_short 1000 n, leading_short 100 n, leading_short 10 n)
 
-hex-from-length : (bits : List ℕ) (i n : ℕ) → length (hexFrom bits i n) ≡ 2 * n
-unfolding hexFrom
+hex-from-length : (bits : List ℕ) (i n : ℕ) → length (hex_from bits i n) ≡ 2 * n
+unfolding hex_from
 hex-from-length bits i zero = refl
 hex-from-length bits i (suc n) =
     let e = hex-from-length bits (i + 8) n in
@@ -39,9 +39,9 @@ pub hex-length : (bits : List ℕ) → length (hex bits) ≡ 2 * ((length bits +
 unfolding hex
 hex-length bits = hex-from-length bits 0 ((length bits + 7) / 8)
 
-pub refusal-length : (number : ℕ) → length (refusalLine number) ≡ length (field refusedWord number) + 1
-unfolding refusalLine
-refusal-length number = simp length-append
+pub refusal_length : (number : ℕ) → length (refusal_line number) ≡ length (field refused_word number) + 1
+unfolding refusal_line
+refusal_length number = simp length-append
 
-pub refusal-short : (number : ℕ) → length (refusalLine number) ≤ 14
-refusal-short number = omega (arith, refusal-length number, field-length refusedWord number, decimal-short number)
+pub refusal_short : (number : ℕ) → length (refusal_line number) ≤ 14
+refusal_short number = omega (arith, refusal_length number, field-length refused_word number, decimal_short number)

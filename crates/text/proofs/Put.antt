@@ -9,9 +9,9 @@ use lib.ListN.{length, take, drop, set, length-append, length-drop, take-append-
 use lib.Seq.{length-take-le, set_split, take_at, drop-append-add, drop-drop}
 use Rattle.text.specs.Written.{put, Written}
 
-pub put-nil : (out : List ℕ) (at : ℕ) → put out at [] ≡ out
+pub put_nil : (out : List ℕ) (at : ℕ) → put out at [] ≡ out
 unfolding put
-put-nil out at = rw (add-zero at) (take-append-drop at out)
+put_nil out at = rw (add-zero at) (take-append-drop at out)
 
 pub put_one : (out : List ℕ) (at b : ℕ) → at < length out → set out at b ≡ put out at (b ∷ [])
 unfolding put
@@ -61,7 +61,7 @@ module _ {out : List ℕ} {at : ℕ} {s : List ℕ} {after : List ℕ} {next : �
 
 -- nothing written
 pub nothing : (out : List ℕ) (at : ℕ) → Written out at [] out at
-nothing out at = record { bytes = sym (put-nil out at); end = sym (add-zero at) }
+nothing out at = record { bytes = sym (put_nil out at); end = sym (add-zero at) }
 
 pub one : (out : List ℕ) (at b : ℕ) → at < length out → Written out at (b ∷ []) (set out at b) (at + 1)
 one out at b h = record { bytes = put_one out at b h; end = refl }
@@ -98,7 +98,7 @@ module _ (out : List ℕ) (at : ℕ) (text : List ℕ) where
       size = rw (w.bytes, put-length now next s fits) l.size
 
   pub left-none : (now : List ℕ) (next : ℕ) → Left out at text now next [] → Written out at text now next
-  left-none now next l = record { bytes = sym (put-nil now next) ∙ l.bytes; end = omega (arith, l.end) }
+  left-none now next l = record { bytes = sym (put_nil now next) ∙ l.bytes; end = omega (arith, l.end) }
 
 -- ---- the room that is left after a writer
 

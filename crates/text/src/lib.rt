@@ -1,7 +1,7 @@
 // Texts written into a lent buffer: bytes, decimal numbers, bits in hexadecimal, and the line of a refusal.
 ghost use Rattle.std.specs.Prelude.{◌≡◌, [], ◌∷◌, ◌+◌, ◌<◌, ◌≤◌, length};
 ghost use Rattle.text.specs.Written.{Written};
-ghost use Rattle.text.specs.Text.{leading, decimal, bit_at, byteAt, hexDigit, hexByte, hexWord, hex, field, refusalLine};
+ghost use Rattle.text.specs.Text.{leading, decimal, bit_at, byte_at, hex_digit, hex_byte, hex_word, hex, field, refusal_line};
 
 // ---- texts and numbers, each written at a place of the buffer; the answer is the place after it
 
@@ -64,7 +64,7 @@ pub fn bit_at(bits: &[u8], i: usize) -> u8
 // Eight bits as a byte.
 pub fn byte_at(bits: &[u8], i: usize) -> u8
     requires { i < length bits.now }
-    ensures { result ≡ byteAt bits.now i }
+    ensures { result ≡ byte_at bits.now i }
 {
     128 * bit_at(bits, i)
         + 64 * bit_at(bits, i + 1)
@@ -78,14 +78,14 @@ pub fn byte_at(bits: &[u8], i: usize) -> u8
 
 pub fn hex_digit(d: u8) -> u8
     requires { d < 16 }
-    ensures { result ≡ hexDigit d }
+    ensures { result ≡ hex_digit d }
 {
     if d < 10 { 48 + d } else { 87 + d }
 }
 
 pub fn put_hex_byte(out: &mut [u8], at: usize, byte: u8) -> usize
     requires { at + 2 ≤ length out.old }
-    ensures { Written out.old at (hexByte byte) out.new result }
+    ensures { Written out.old at (hex_byte byte) out.new result }
 {
     let high = put_byte(out, at, hex_digit(byte / 16));
     put_byte(out, high, hex_digit(byte % 16))
@@ -94,7 +94,7 @@ pub fn put_hex_byte(out: &mut [u8], at: usize, byte: u8) -> usize
 // A number of two bytes, four digits.
 pub fn put_hex_word(out: &mut [u8], at: usize, n: u16) -> usize
     requires { at + 4 ≤ length out.old }
-    ensures { Written out.old at (hexWord n) out.new result }
+    ensures { Written out.old at (hex_word n) out.new result }
 {
     let high = n / 256;
     let low = n % 256;
@@ -129,8 +129,8 @@ pub fn put_field(out: &mut [u8], at: usize, word: &[u8], n: u16) -> usize
 }
 
 pub fn refusal_line(out: &mut [u8], at: usize, number: u16) -> usize
-    requires { at + length (refusalLine number) ≤ length out.old }
-    ensures { Written out.old at (refusalLine number) out.new result }
+    requires { at + length (refusal_line number) ≤ length out.old }
+    ensures { Written out.old at (refusal_line number) out.new result }
 {
     let a = put_field(out, at, b"refused ", number);
     put_byte(out, a, 10)

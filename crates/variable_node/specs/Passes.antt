@@ -3,11 +3,11 @@ use Rattle.std.specs.Prelude.{List, ℕ, zero, suc, ◌*◌, ◌≤◌, Float, l
 use Rattle.std.specs.Float.{nan}
 use Rattle.softmath.specs.Single.{◌⊕◌, ◌⊖◌}
 use Rattle.softmath.specs.Functions.{decide}
-use Rattle.softmath.specs.VariableNode.{decisionSum, newMessages, answersAt, put_at}
+use Rattle.softmath.specs.VariableNode.{decision_sum, new_messages, answers_at, put_at}
 use Rattle.softmath.specs.declared.SumKind.{SumKind}
 use Rattle.softmath.specs.declared.SumKind.TheVariants.{Total, Others}
 use Rattle.lists.specs.Below.{Below}
-use Rattle.slots.specs.Layout.{threeAt, scattered}
+use Rattle.slots.specs.Layout.{three_at, scattered}
 
 -- the turns 0 to n - 1, one after the other
 unfoldable pub turns : {A : Type 0} → (ℕ → A → A) → ℕ → A → A
@@ -19,30 +19,30 @@ pub record Pass : Type 0 where
   pub word : List ℕ
   pub work : List Float
 
-abbrev pub passOf : List ℕ → List Float → Pass
-passOf word work = record { word = word; work = work }
+abbrev pub pass_of : List ℕ → List Float → Pass
+pass_of word work = record { word = word; work = work }
 
 -- one bit, with its channel value and the places of its edges: its decision goes into the word, its new messages take the place of its answers
-unfoldable pub bitDone : SumKind → Float → List ℕ → ℕ → Pass → Pass
-bitDone kind l edges b s = record {
-  word = set s.word b (decide (decisionSum l (answersAt s.work edges)));
-  work = put_at edges (newMessages kind l (answersAt s.work edges)) s.work;
+unfoldable pub bit_done : SumKind → Float → List ℕ → ℕ → Pass → Pass
+bit_done kind l edges b s = record {
+  word = set s.word b (decide (decision_sum l (answers_at s.work edges)));
+  work = put_at edges (new_messages kind l (answers_at s.work edges)) s.work;
 }
 
 -- ---- bits with three edges, listed in a table
 
 -- the message to the edge whose answer is `own`: the total less it, or the channel value and the two others
-unfoldable pub messageTo : SumKind → Float → Float → Float → Float → Float → Float
-messageTo Total llr total own one other = total ⊖ own
-messageTo Others llr total own one other = (llr ⊕ one) ⊕ other
+unfoldable pub message_to : SumKind → Float → Float → Float → Float → Float → Float
+message_to Total llr total own one other = total ⊖ own
+message_to Others llr total own one other = (llr ⊕ one) ⊕ other
 
 -- turn b: bit b
-unfoldable pub threeTurn : SumKind → List Float → List ℕ → ℕ → Pass → Pass
-threeTurn kind llr table b s = bitDone kind (get_or llr b nan) (threeAt table b) b s
+unfoldable pub three_turn : SumKind → List Float → List ℕ → ℕ → Pass → Pass
+three_turn kind llr table b s = bit_done kind (get_or llr b nan) (three_at table b) b s
 
 -- its channel value at its edges
-unfoldable pub threeFirst : List Float → List ℕ → ℕ → List Float → List Float
-threeFirst llr table b w = scattered (get_or llr b nan) (threeAt table b) w
+unfoldable pub three_first : List Float → List ℕ → ℕ → List Float → List Float
+three_first llr table b w = scattered (get_or llr b nan) (three_at table b) w
 
 -- the table lists n bits, whose edges are places of a work area of `room` messages
 pub record Listed (n : ℕ) (table : List ℕ) (room : ℕ) : Type 0 where

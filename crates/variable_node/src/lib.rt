@@ -1,7 +1,7 @@
 // The bits of a code whose messages lie by slots: each bit's first messages, and in a round its decision and its new messages in place of its answers.
 // Here those of three edges, whose places are in a table.
 ghost use Rattle.std.specs.Prelude.{◌≡◌, ◌≤◌, length};
-ghost use Rattle.variable_node.specs.Passes.{turns, passOf, messageTo, threeTurn, threeFirst, Listed};
+ghost use Rattle.variable_node.specs.Passes.{turns, pass_of, message_to, three_turn, three_first, Listed};
 
 use softmath::SumKind;
 
@@ -9,7 +9,7 @@ use softmath::SumKind;
 pub fn listed_first(n: usize, llr: &[f32], table: &[u16], messages: &mut [f32])
     requires n_in_bounds { n ≤ length llr.now }
     requires listed { Listed n table.now (length messages.old) }
-    ensures { messages.new ≡ turns (threeFirst llr.now table.now) n messages.old }
+    ensures { messages.new ≡ turns (three_first llr.now table.now) n messages.old }
 {
     let mut a = 0;
     let mut b = 0;
@@ -28,7 +28,7 @@ pub fn listed_first(n: usize, llr: &[f32], table: &[u16], messages: &mut [f32])
 
 // The new message to an edge: the total less its own answer, or the channel value and the other two answers.
 fn new_message(kind: SumKind, llr: f32, total: f32, own: f32, one: f32, other: f32) -> f32
-    ensures { result ≡ messageTo kind llr total own one other }
+    ensures { result ≡ message_to kind llr total own one other }
 {
     match kind {
         SumKind::Total => total - own,
@@ -48,8 +48,8 @@ pub fn listed_bits(
     requires n_in_bounds { n ≤ length llr.now }
     requires n_in_bounds_2 { n ≤ length hard.old }
     requires listed { Listed n table.now (length messages.old) }
-    ensures { passOf hard.new messages.new
-        ≡ turns (threeTurn kind llr.now table.now) n (passOf hard.old messages.old) }
+    ensures { pass_of hard.new messages.new
+        ≡ turns (three_turn kind llr.now table.now) n (pass_of hard.old messages.old) }
 {
     let mut a = 0;
     let mut b = 0;

@@ -7,7 +7,7 @@
 --     Param            a parameter of a walked function: its slot, what is had of it at exit, with that law, and how its machine values are written
 --     kept-ref, kept-slice            a `&mut` that the function holds at exit
 --     given-ref, given-slice          one that it passed on for good
---     shared-slice, plain-param, plain-number      nothing is had of it
+--     shared-slice, plain_param, plain-number      nothing is had of it
 -- Assumes `Logic`.
 use mathlib.Core.Path.{◌≡◌, refl, sym, subst}
 use mathlib.Core.List.{List, [], ◌∷◌}
@@ -184,8 +184,8 @@ module _ {n : ℕ} (j : ℕ) (ok : AllWithin n (j ∷ [])) (R : RattleType) wher
 pub silent : {D : Type 0} (e : Exit D) → e ≡ unchanged → (x : D) (f : Last e x) → left e x f ≡ ftrue
 silent {D} e q = subst (λ (e' : Exit D). (x : D) (f : Last e' x) → left e' x f ≡ ftrue) (sym q) (λ x f. refl)
 
-abbrev pub plain-param : {n : ℕ} → Plain → Param n
-plain-param {n} P = record {
+abbrev pub plain_param : {n : ℕ} → Plain → Param n
+plain_param {n} P = record {
   slot = plain (λ _. P.row);
   stay = stay_dropped (plain (λ _. P.row)) yes;
   goes = λ 𝓛. Goes-dropped 𝓛 n (plain (λ _. P.row)) yes (λ κs. silent (P.row.exit yes) P.still);
@@ -195,7 +195,7 @@ plain-param {n} P = record {
 }
 
 abbrev pub plain-number : {n : ℕ} → Param n
-plain-number = plain-param (nat w64)
+plain-number = plain_param (nat w64)
 
 module _ {n : ℕ} where
   abbrev pub slots : List (Param n) → List (Slot n)

@@ -7,7 +7,7 @@
 --     stores, stores-plain            a call's result is stored in a local
 --     passes_on        a slice that a function holds is passed on
 --     lends, returned  a local's memory is lent, and comes back
---     forgets-from     what the locals from one on hold is forgotten
+--     forgets_from     what the locals from one on hold is forgotten
 --     returns-all, returns-early      the function returns what its first local holds, and the locals are freed; the same inside an `if`
 --     goes-past        an `if` whose test does not hold
 -- Assumes `Logic`.
@@ -53,10 +53,10 @@ present empty = true
 present (full v) = true
 present away = false
 
-abbrev pub lies-away : Cell → Bool
-lies-away empty = false
-lies-away (full v) = false
-lies-away away = true
+abbrev pub lies_away : Cell → Bool
+lies_away empty = false
+lies_away (full v) = false
+lies_away away = true
 
 cell : Spot → Cell → Fml
 cell e empty = fsep (froom e.0 e.1 zero) (fdies e.0 e.1)
@@ -286,10 +286,10 @@ emptied empty = empty
 emptied (full v) = empty
 emptied away = away
 
-abbrev pub emptied-from : ℕ → List Cell → List Cell
-emptied-from i [] = []
-emptied-from zero (c ∷ cs) = emptied c ∷ emptied-from zero cs
-emptied-from (suc i) (c ∷ cs) = c ∷ emptied-from i cs
+abbrev pub emptied_from : ℕ → List Cell → List Cell
+emptied_from i [] = []
+emptied_from zero (c ∷ cs) = emptied c ∷ emptied_from zero cs
+emptied_from (suc i) (c ∷ cs) = c ∷ emptied_from i cs
 
 module _ {M : Type 1} {𝓤 : Ura M} (𝓛 : Logic 𝓤) where
   one-emptied : (p : Spot) (c : Cell) → ent 𝓤 (sem 𝓛 (cell p c)) (sem 𝓛 (cell p (emptied c)))
@@ -298,7 +298,7 @@ module _ {M : Type 1} {𝓤 : Ura M} (𝓛 : Logic 𝓤) where
   one-emptied p (full v) = qed 𝓛 (‵ (fsep (fat full_share p.0 p.1 zero v) (fdies p.0 p.1)) ∷ []) ∵ fsplit ! $ forget ! 0 refl $ fjoin ! $ done !
   one-emptied p away = id⊢ 𝓤 _
 
-  emptied-out : (i : ℕ) (cs : List Cell) (E : List Spot) → ent 𝓤 (sem 𝓛 (cells E cs)) (sem 𝓛 (cells E (emptied-from i cs)))
+  emptied-out : (i : ℕ) (cs : List Cell) (E : List Spot) → ent 𝓤 (sem 𝓛 (cells E cs)) (sem 𝓛 (cells E (emptied_from i cs)))
   unfolding cells
   emptied-out i [] E = id⊢ 𝓤 _
   emptied-out zero (c ∷ cs) [] = never_e 𝓤 _
@@ -306,12 +306,12 @@ module _ {M : Type 1} {𝓤 : Ura M} (𝓛 : Logic 𝓤) where
   emptied-out (suc i) (c ∷ cs) [] = never_e 𝓤 _
   emptied-out (suc i) (c ∷ cs) (p ∷ E) = mono_r 𝓤 (sem 𝓛 (cell p c)) (emptied-out i cs E)
 
-pub forgets-from : {M : Type 1} {𝓤 : Ura M} {𝓛 : Logic 𝓤} {K : Type 0}
+pub forgets_from : {M : Type 1} {𝓤 : Ura M} {𝓛 : Logic 𝓤} {K : Type 0}
     {Γ : List (Item 𝓤)} {G : Goal 𝓤 𝓛.H} {E : List Spot} {cs : List Cell}
-    → K → (i : ℕ) → Step K 𝓛 (‵ (frame E (emptied-from i cs)) ∷ Γ) G (‵ (frame E cs) ∷ Γ) G
-forgets-from {𝓤 = 𝓤} {𝓛} {E = E} {cs} t i = step (λ s.
-    use1 𝓛 (‵ (cells E cs)) (frame-out 𝓛 E cs) $ use1 𝓛 (‵ (cells E (emptied-from i cs))) (emptied-out 𝓛 i cs E) $
-    use1 𝓛 (‵ (frame E (emptied-from i cs))) (frame-in 𝓛 E (emptied-from i cs)) $ s)
+    → K → (i : ℕ) → Step K 𝓛 (‵ (frame E (emptied_from i cs)) ∷ Γ) G (‵ (frame E cs) ∷ Γ) G
+forgets_from {𝓤 = 𝓤} {𝓛} {E = E} {cs} t i = step (λ s.
+    use1 𝓛 (‵ (cells E cs)) (frame-out 𝓛 E cs) $ use1 𝓛 (‵ (cells E (emptied_from i cs))) (emptied-out 𝓛 i cs E) $
+    use1 𝓛 (‵ (frame E (emptied_from i cs))) (frame-in 𝓛 E (emptied_from i cs)) $ s)
 
 -- ---- a function begins and ends
 abbrev pub Blocks : List Local → Type 0
@@ -365,16 +365,16 @@ module _ {M : Type 1} {𝓤 : Ura M} {𝓛 : Logic 𝓤} {K : Type 0} where
       (frame-in 𝓛 (spots (local τ h ∷ ls) bs) (empty ∷ filled vs (empties ls))) $ k bs))
 
 -- no local is away
-abbrev pub all-present : List Spot → List Cell → Bool
-all-present [] [] = true
-all-present [] (c ∷ cs) = false
-all-present (p ∷ E) [] = false
-all-present (p ∷ E) (c ∷ cs) = present c && all-present E cs
+abbrev pub all_present : List Spot → List Cell → Bool
+all_present [] [] = true
+all_present [] (c ∷ cs) = false
+all_present (p ∷ E) [] = false
+all_present (p ∷ E) (c ∷ cs) = present c && all_present E cs
 
 module _ {M : Type 1} {𝓤 : Ura M} {𝓛 : Logic 𝓤} {K : Type 0} where
   open 𝓛 use {H}
 
-  frees_all : K → (Γ : List (Item 𝓤)) (E : List Spot) (cs : List Cell) (g : Goal 𝓤 H) → T (all-present E cs) → Seq K 𝓛 Γ g
+  frees_all : K → (Γ : List (Item 𝓤)) (E : List Spot) (cs : List Cell) (g : Goal 𝓤 H) → T (all_present E cs) → Seq K 𝓛 Γ g
       → Seq K 𝓛 (‵ (cells E cs) ∷ Γ) (frees E g)
   unfolding cells cell
   frees_all t Γ [] [] g z s = drop t $ free0 t $ s
@@ -385,7 +385,7 @@ module _ {M : Type 1} {𝓤 : Ura M} {𝓛 : Logic 𝓤} {K : Type 0} where
   frees_all t Γ (p ∷ E) (away ∷ cs) g z s = absurd z
 
   pub returns-all : K → {Γ : List (Item 𝓤)} {E : List Spot} {cs : List Cell} {C : Calls 𝓤 H} {Λ : Loops 𝓤 H} {Kf : Val → SProp 𝓤} {v : Val}
-      → get_or cs 0 away ≡ full v → T (all-present E cs)
+      → get_or cs 0 away ≡ full v → T (all_present E cs)
       → Step K 𝓛 Γ (prop (Kf v)) (‵ (frame E cs) ∷ Γ) (runs C Λ E return (at_ret E Kf))
   returns-all t {Γ} {E} {cs} {Kf = Kf} {v} e z = step (λ s. returns t (look_in t 0 (cell-of t 0 e)) $ use1 𝓛 (‵ (cells E cs)) (frame-out 𝓛 E cs) $
       frees_all t Γ E cs (prop (Kf v)) z s)
@@ -394,7 +394,7 @@ module _ {M : Type 1} {𝓤 : Ura M} {𝓛 : Logic 𝓤} {K : Type 0} where
   pub returns-early : K
       → {Γ : List (Item 𝓤)} {E : List Spot} {cs : List Cell} {C : Calls 𝓤 H} {Λ : Loops 𝓤 H} {Kf : Val → SProp 𝓤} {i : ℕ} {v : Val} {c : Operand} {rest : Body}
       → Opd K 𝓛 (‵ (frame E cs) ∷ Γ) E c (vbool true) → get_or cs i away ≡ full v → T (has_ty (type_of E 0) v) × WT v → T (present (get_or cs 0 away))
-      → T (all-present E (set cs 0 (full v)))
+      → T (all_present E (set cs 0 (full v)))
       → Step K 𝓛 Γ (prop (Kf v)) (‵ (frame E cs) ∷ Γ)
       (runs C Λ E (seq (cond c (seq (assign (place 0 []) (rv_opd (copy (place i [])))) return) skip) rest) (at_ret E Kf))
   returns-early t {Γ} {E} {cs} {Kf = Kf} {v = v} o e typed z zs = step (λ s. first t $ branches t o
@@ -425,7 +425,7 @@ module _ {M : Type 1} {𝓤 : Ura M} (𝓛 : Logic 𝓤) where
       use1 𝓛 (‵ (fsep (fat full_share (type_of E i) (block_of E i) zero v) (cells E (set cs i away)))) (lent_out cs E i v e) $ fsplit ! $
       move ! (2 ∷ 1 ∷ []) $ fjoin ! $ move ! (1 ∷ 0 ∷ []) $ fjoin ! $ done !
 
-  lent-in : (cs : List Cell) (E : List Spot) (i : ℕ) (v : Val) → T (lies-away (get_or cs i empty))
+  lent-in : (cs : List Cell) (E : List Spot) (i : ℕ) (v : Val) → T (lies_away (get_or cs i empty))
       → ent 𝓤 (sem 𝓛 (fsep (fat full_share (type_of E i) (block_of E i) zero v) (cells E cs))) (sem 𝓛 (cells E (set cs i (full v))))
   unfolding cells cell
   lent-in [] E i v z = absurd z
@@ -448,7 +448,7 @@ module _ {M : Type 1} {𝓤 : Ura M} {𝓛 : Logic 𝓤} {K : Type 0}
       use1 𝓛 (‵ (fsep (fat full_share (type_of E i) (block_of E i) zero v) (cells E (set cs i away)))) (lent_out 𝓛 cs E i v e) $
       fsplit t $ move t (1 ∷ []) $ use1 𝓛 (‵ (frame E (set cs i away))) (frame-in 𝓛 E (set cs i away)) $ move t (1 ∷ 0 ∷ []) $ s)
 
-  pub returned : K → (i : ℕ) {v : Val} → T (lies-away (get_or cs i empty)) → Step K 𝓛 (‵ (frame E (set cs i (full v))) ∷ Γ) G
+  pub returned : K → (i : ℕ) {v : Val} → T (lies_away (get_or cs i empty)) → Step K 𝓛 (‵ (frame E (set cs i (full v))) ∷ Γ) G
       (‵ (fat full_share (type_of E i) (block_of E i) zero v) ∷ ‵ (frame E cs) ∷ Γ) G
   returned t i {v} z = step (λ s. move t (1 ∷ []) $ use1 𝓛 (‵ (cells E cs)) (frame-out 𝓛 E cs) $ move t (1 ∷ 0 ∷ []) $ fjoin t $
       use1 𝓛 (‵ (cells E (set cs i (full v)))) (lent-in 𝓛 cs E i v z) $

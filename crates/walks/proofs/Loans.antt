@@ -6,8 +6,8 @@
 --     Names            for each lending the lifetime and the ghost name of the loan
 --     held, held_at    what the caller holds of a list of loans before the call, and after it, at the last values
 --     Takes            the callee takes what is lent: its arguments, what it asks and what it gives are those of the loans
---     calls-lent       the call. The caller learns the last values, and that no slice changed its length
---     own-args         a function's own parameters as arguments
+--     calls_lent       the call. The caller learns the last values, and that no slice changed its length
+--     own_args         a function's own parameters as arguments
 --     gathers          at entry each reference is put beside its token: it is held
 --     scatters         at exit the tokens and the `&mut` are apart again, at the last values
 -- Assumes `Logic`, and that the table of calls is monotone under a frame.
@@ -173,11 +173,11 @@ Names (loan l ∷ ls) = (ℕ × GName) × Names ls
 Names (hand d ∷ ls) = Names ls
 
 -- the arguments that are passed
-abbrev pub lent-args : (ls : List Loan) → Names ls → List Arg
-lent-args [] ν = []
-lent-args (loan l ∷ ls) ν =
-    reference (l.to ν.0.0 ν.0.1) l.X l.x l.value l.well (l.owns ν.0.0 ν.0.1) ∷ lent-args ls ν.1
-lent-args (hand d ∷ ls) ν = plainly d ∷ lent-args ls ν
+abbrev pub lent_args : (ls : List Loan) → Names ls → List Arg
+lent_args [] ν = []
+lent_args (loan l ∷ ls) ν =
+    reference (l.to ν.0.0 ν.0.1) l.X l.x l.value l.well (l.owns ν.0.0 ν.0.1) ∷ lent_args ls ν.1
+lent_args (hand d ∷ ls) ν = plainly d ∷ lent_args ls ν
 
 abbrev pub LastValues : List Loan → Type 0
 LastValues [] = Unit {0}
@@ -294,7 +294,7 @@ module _ {M : Type 1} {𝓤 : Ura M} {𝓛 : Logic 𝓤} {T : Ended} {c : Clause
   takes at ghost asked lasts before after = record { at = at; ghost = ghost; asked = asked; lasts = lasts; before = before; after = after }
 
 -- i is what stands first, the caller's locals: it stays there, and the operands are read with it
-pub calls-lent : {M : Type 1} {𝓤 : Ura M} (𝓛 : Logic 𝓤) {K : Type 0} {i : Item 𝓤}
+pub calls_lent : {M : Type 1} {𝓤 : Ura M} (𝓛 : Logic 𝓤) {K : Type 0} {i : Item 𝓤}
     {Γ : List (Item 𝓤)} {E : Env 𝓤 𝓛.H} {C : Calls 𝓤 𝓛.H} {f : Name} {os : List Operand} {Λ : Loops 𝓤 𝓛.H} {q : Post 𝓤 𝓛.H} {d : Place} {rest : Body}
     → FmC 𝓤 𝓛.H 𝓛.laws C → (T : Ended) (c : Clauses 𝓤 T) → Triple 𝓤 (C f) (Callee 𝓛 T c) → (ls : List Loan) (θ : Takes 𝓛 T c ls)
     → ((ν : Names ls) → ent 𝓤 (emp 𝓤) ((c (θ.at ν).0 (θ.at ν).3).requires (θ.ghost ν)))
@@ -306,7 +306,7 @@ pub calls-lent : {M : Type 1} {𝓤 : Ura M} (𝓛 : Logic 𝓤) {K : Type 0} {i
     → Learned 𝓛 T c (θ.at ν) (θ.ghost ν) (Said ν) v r ws → Knowns ls (θ.lasts ν ws)
     → Seq K 𝓛 (i ∷ (held_at 𝓤 ls (θ.lasts ν ws) ++ Γ)) (lands C Λ E d v rest q))
     → Seq K 𝓛 (i ∷ (held 𝓤 ls ++ Γ)) (runs C Λ E (seq (call f os d) rest) q)
-calls-lent {M} {𝓤} 𝓛 {K} {i} {Γ} fm T c known ls θ ok Said shows t os k =
+calls_lent {M} {𝓤} 𝓛 {K} {i} {Γ} fm T c known ls θ ok Said shows t os k =
     cut (i ∷ held 𝓤 ls) (all_of 𝓛 (held 𝓤 ls) ∷ i ∷ []) Γ (behind 𝓛 i (held 𝓤 ls)) $ lends-all t tt (i ∷ Γ) ls (λ ν. move t (0 ∷ 1 ∷ 3 ∷ []) $
     cut (all_of 𝓛 (tokens-of 𝓤 ls ν) ∷ all_of 𝓛 (owned 𝓤 ls ν) ∷ []) (Before 𝓛 T c (θ.at ν) (θ.ghost ν) (θ.asked ν))
     (i ∷ all_of 𝓛 (kept 𝓤 ls ν) ∷ Γ)
@@ -321,15 +321,15 @@ calls-lent {M} {𝓤} 𝓛 {K} {i} {Γ} fm T c known ls θ ok Said shows t os k 
 
 -- ---- from entry to exit
 -- a function's own parameters
-abbrev pub own-args : List Loan → List Arg
-own-args [] = []
-own-args (loan l ∷ ls) = reference l.handle l.X l.x l.value l.well l.own ∷ own-args ls
-own-args (hand d ∷ ls) = plainly d ∷ own-args ls
+abbrev pub own_args : List Loan → List Arg
+own_args [] = []
+own_args (loan l ∷ ls) = reference l.handle l.X l.x l.value l.well l.own ∷ own_args ls
+own_args (hand d ∷ ls) = plainly d ∷ own_args ls
 
 -- P is had if it stays
-abbrev had-if : {M : Type 1} {𝓤 : Ura M} → Bool → Fml → List (Item 𝓤) → List (Item 𝓤)
-had-if true P Γ = ‵ P ∷ Γ
-had-if false P Γ = Γ
+abbrev had_if : {M : Type 1} {𝓤 : Ura M} → Bool → Fml → List (Item 𝓤) → List (Item 𝓤)
+had_if true P Γ = ‵ P ∷ Γ
+had_if false P Γ = Γ
 
 module _ {M : Type 1} (𝓤 : Ura M) where
   -- their tokens, what they own, and what is had of them at exit
@@ -345,7 +345,7 @@ module _ {M : Type 1} (𝓤 : Ura M) where
 
   abbrev pub own-exits : (ls : List Loan) → LastValues ls → List (Item 𝓤)
   own-exits [] ws = []
-  own-exits (loan l ∷ ls) ws = had-if l.stays (l.own_at ws.0) (own-exits ls ws.1)
+  own-exits (loan l ∷ ls) ws = had_if l.stays (l.own_at ws.0) (own-exits ls ws.1)
   own-exits (hand d ∷ ls) ws = own-exits ls ws.1
 
 module _ {M : Type 1} {𝓤 : Ura M} (𝓛 : Logic 𝓤) where
@@ -360,7 +360,7 @@ module _ {M : Type 1} {𝓤 : Ura M} (𝓛 : Logic 𝓤) where
       apart ! (‵ (d.of.row.own_val d.x (d.of.val d.x ∷ []))) (own-entries 𝓤 ls) $ drop ! $ move ! (1 ∷ 0 ∷ []) $
       use2 𝓛 (all_of 𝓛 (held 𝓤 ls)) (gathered ls) $ done !
 
-  had_in : (t : Bool) (P : Fml) (Δ : List (Item 𝓤)) → ent 𝓤 (sep 𝓤 (mean 𝓛 (‵ P)) (⋆ 𝓛 Δ)) (⋆ 𝓛 (had-if t P Δ))
+  had_in : (t : Bool) (P : Fml) (Δ : List (Item 𝓤)) → ent 𝓤 (sep 𝓤 (mean 𝓛 (‵ P)) (⋆ 𝓛 Δ)) (⋆ 𝓛 (had_if t P Δ))
   had_in true P Δ = push 𝓛 (‵ P) Δ
   had_in false P Δ = snd∗ 𝓤 (mean 𝓛 (‵ P)) (⋆ 𝓛 Δ)
 
@@ -369,7 +369,7 @@ module _ {M : Type 1} {𝓤 : Ura M} (𝓛 : Logic 𝓤) where
   scattered (loan l ∷ ls) ws =
       qed 𝓛 (all_of 𝓛 (held_at 𝓤 (loan l ∷ ls) ws) ∷ []) ∵ apart ! (‵ (holds_at l ws.0)) (held_at 𝓤 ls ws.1) $ fsplit ! $ move ! (2 ∷ []) $
       use1 𝓛 (all_of 𝓛 (own-tokens 𝓤 ls) ⊛ all_of 𝓛 (own-exits 𝓤 ls ws.1)) (scattered ls ws.1) $ split ! $ move ! (2 ∷ 1 ∷ []) $
-      use2 𝓛 (all_of 𝓛 (had-if l.stays (l.own_at ws.0) (own-exits 𝓤 ls ws.1))) (had_in l.stays (l.own_at ws.0) (own-exits 𝓤 ls ws.1)) $
+      use2 𝓛 (all_of 𝓛 (had_if l.stays (l.own_at ws.0) (own-exits 𝓤 ls ws.1))) (had_in l.stays (l.own_at ws.0) (own-exits 𝓤 ls ws.1)) $
       move ! (2 ∷ 1 ∷ []) $ together ! (‵ (token l.handle)) (own-tokens 𝓤 ls) $ join ! $ done !
   scattered (hand d ∷ ls) ws = scattered ls ws.1
 

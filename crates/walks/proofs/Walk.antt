@@ -36,9 +36,9 @@ module _ {M : Type 1} {𝓤 : Ura M} (𝓛 : Logic 𝓤) where
   entries [] a vss = []
   entries (T ∷ Ts) a vss = ‵ (T.own a.0 vss.0) ∷ entries Ts a.1 vss.1
 
-  entries-out : (Ts : List RattleType) (a : Denots Ts) (vss : Valss Ts) → ent 𝓤 (sem 𝓛 (owns Ts a vss)) (⋆ 𝓛 (entries Ts a vss))
-  entries-out [] a vss = id⊢ 𝓤 (emp 𝓤)
-  entries-out (T ∷ Ts) a vss = via 𝓤 _ (mono_r 𝓤 (sem 𝓛 (T.own a.0 vss.0)) (entries-out Ts a.1 vss.1))
+  entries_out : (Ts : List RattleType) (a : Denots Ts) (vss : Valss Ts) → ent 𝓤 (sem 𝓛 (owns Ts a vss)) (⋆ 𝓛 (entries Ts a vss))
+  entries_out [] a vss = id⊢ 𝓤 (emp 𝓤)
+  entries_out (T ∷ Ts) a vss = via 𝓤 _ (mono_r 𝓤 (sem 𝓛 (T.own a.0 vss.0)) (entries_out Ts a.1 vss.1))
       (push 𝓛 (‵ (T.own a.0 vss.0)) (entries Ts a.1 vss.1))
 
   -- what is had of the parameters at exit
@@ -132,6 +132,6 @@ module _ {M : Type 1} {𝓤 : Ura M} (𝓛 : Logic 𝓤) (T : Ended) (hs : Stays
       (walked 𝓛 T hs c (WpFn 𝓤 H 𝓣.C 𝓣.Λ f) sp tl (λ κs qs b a g are.
       let P : SProp 𝓤 = on_entry 𝓛 T.signature κs qs a (written κs a) in
       via 𝓤 _ (mono_r 𝓤 P (asked κs a g)) (needs 𝓤 (Asked κs a) P (λ ok.
-      via 𝓤 _ (via 𝓤 _ (mono∗ 𝓤 (tokens-out 𝓛 T.signature.lifetimes κs qs) (entries-out 𝓛 (types_at T.signature.params κs) a (written κs a)))
+      via 𝓤 _ (via 𝓤 _ (mono∗ 𝓤 (tokens-out 𝓛 T.signature.lifetimes κs qs) (entries_out 𝓛 (types_at T.signature.params κs) a (written κs a)))
       (++⊢ 𝓛 (tokens 𝓛 T.signature.lifetimes κs qs) (entries 𝓛 (types_at T.signature.params κs) a (written κs a))))
       (walk κs qs b a g are ok).prf))))

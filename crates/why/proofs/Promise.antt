@@ -7,17 +7,17 @@ use Prim.Native.Nat.{ℕ}
 use native.Mathlib.Omega.{arith}
 use lib.ListN.{get_or}
 use Rattle.refusal.specs.Outcome.{Outcome, accepted, refused}
-use Rattle.refusal.proofs.Judged.{verdict, judged-accepted, judged-refused}
+use Rattle.refusal.proofs.Judged.{verdict, judged_accepted, judged_refused}
 use Rattle.tanner.specs.Checks.{Word, Checks}
-use Rattle.text.specs.Text.{field, refusalLine, printed}
+use Rattle.text.specs.Text.{field, refusal_line, printed}
 use Rattle.first_reason.specs.declared.Reason.{Reason}
 use Rattle.first_reason.specs.declared.Reason.TheVariants.{Nan, Check, Checksum, Clean}
-use Rattle.numbered.specs.Codes.{checksBy}
-use Rattle.reason.specs.Under.{reasonUnder}
+use Rattle.numbered.specs.Codes.{checks_by}
+use Rattle.reason.specs.Under.{reason_under}
 use Rattle.reason.proofs.Under.{under-holds, clean-exactly}
-use Rattle.reason_lines.specs.Lines.{nanLine, checkLine, checksumLine, cleanLine, reasonLine}
-use Rattle.why.specs.Why.{whyRefusals, frameLine, whyOf}
-use Rattle.why.specs.Promise.{Accepted, batchAsked, valuesAsked, wordAsked, cleanAsked, Explains, CleanPrinted}
+use Rattle.reason_lines.specs.Lines.{nan_line, check_line, checksum_line, clean_line, reason_line}
+use Rattle.why.specs.Why.{why_refusals, frame_line, why_of}
+use Rattle.why.specs.Promise.{Accepted, batch_asked, values_asked, word_asked, clean_asked, Explains, CleanPrinted}
 
 -- ---- lines that differ
 
@@ -25,48 +25,48 @@ use Rattle.why.specs.Promise.{Accepted, batchAsked, valuesAsked, wordAsked, clea
 differ : (a b : List ℕ) (i : ℕ) → a ≡ b → get_or a i 0 ≡ get_or b i 0
 differ a b i e = ap (λ (l : List ℕ). get_or l i 0) e
 
-clean-alone : (checks : Checks) (word : Word) (r : Reason) → reasonLine checks word r ≡ cleanLine → r ≡ Clean
-unfolding nanLine checkLine checksumLine cleanLine field
-clean-alone checks word (Nan p) e = absurd (omega (arith, differ (nanLine p) cleanLine 0 e))
-clean-alone checks word (Check c) e = absurd (omega (arith, differ (checkLine checks word c) cleanLine 1 e))
-clean-alone checks word (Checksum a b) e = absurd (omega (arith, differ (checksumLine a b) cleanLine 1 e))
-clean-alone checks word Clean e = refl
+clean_alone : (checks : Checks) (word : Word) (r : Reason) → reason_line checks word r ≡ clean_line → r ≡ Clean
+unfolding nan_line check_line checksum_line clean_line field
+clean_alone checks word (Nan p) e = absurd (omega (arith, differ (nan_line p) clean_line 0 e))
+clean_alone checks word (Check c) e = absurd (omega (arith, differ (check_line checks word c) clean_line 1 e))
+clean_alone checks word (Checksum a b) e = absurd (omega (arith, differ (checksum_line a b) clean_line 1 e))
+clean_alone checks word Clean e = refl
 
-refused-differs : (k : ℕ) → refusalLine k ≡ cleanLine → ⊥
-unfolding refusalLine cleanLine field
-refused-differs k e = omega (arith, differ (refusalLine k) cleanLine 0 e)
+refused_differs : (k : ℕ) → refusal_line k ≡ clean_line → ⊥
+unfolding refusal_line clean_line field
+refused_differs k e = omega (arith, differ (refusal_line k) clean_line 0 e)
 
 -- ---- what is printed
 
 module _ (s : List ℕ) where
-  abbrev reasonAsked : Reason
-  reasonAsked = let b = batchAsked s in reasonUnder b.code b.rule b.scale (valuesAsked s) b.limit
+  abbrev reason_asked : Reason
+  reason_asked = let b = batch_asked s in reason_under b.code b.rule b.scale (values_asked s) b.limit
 
-  line-is : Accepted s → whyOf s ≡ reasonLine (checksBy (batchAsked s).code) (wordAsked s) reasonAsked
-  unfolding whyOf frameLine
-  line-is v = rw (judged-accepted (whyRefusals s) (frameLine (batchAsked s) (valuesAsked s)) v)
+  line-is : Accepted s → why_of s ≡ reason_line (checks_by (batch_asked s).code) (word_asked s) reason_asked
+  unfolding why_of frame_line
+  line-is v = rw (judged_accepted (why_refusals s) (frame_line (batch_asked s) (values_asked s)) v)
 
   -- "the printed reason holds of that frame", and "each earlier one doesn't"
   pub explains : Accepted s → Explains s
-  explains v = let b = batchAsked s in record {
-    reason = reasonAsked;
+  explains v = let b = batch_asked s in record {
+    reason = reason_asked;
     line = line-is v;
-    holds = under-holds b.code b.rule b.scale (valuesAsked s) b.limit;
+    holds = under-holds b.code b.rule b.scale (values_asked s) b.limit;
   }
 
   -- "`clean` appears only for a clean frame", and for each
-  only-by : (o : Outcome Unit) → verdict (whyRefusals s) ≡ o → whyOf s ≡ cleanLine → Accepted s × (cleanAsked s ≡ true)
-  unfolding whyOf
+  only-by : (o : Outcome Unit) → verdict (why_refusals s) ≡ o → why_of s ≡ clean_line → Accepted s × (clean_asked s ≡ true)
+  unfolding why_of
   only-by (accepted tt) v e =
-      let b = batchAsked s in
-      let found = clean-alone (checksBy b.code) (wordAsked s) reasonAsked (sym (line-is v) ∙ e) in
-      (v, (clean-exactly b.code b.rule b.scale (valuesAsked s) b.limit).only found)
-  only-by (refused k) v e = absurd (refused-differs k (sym (ap printed (judged-refused (whyRefusals s) (frameLine (batchAsked s) (valuesAsked s)) k v)) ∙ e))
+      let b = batch_asked s in
+      let found = clean_alone (checks_by b.code) (word_asked s) reason_asked (sym (line-is v) ∙ e) in
+      (v, (clean-exactly b.code b.rule b.scale (values_asked s) b.limit).only found)
+  only-by (refused k) v e = absurd (refused_differs k (sym (ap printed (judged_refused (why_refusals s) (frame_line (batch_asked s) (values_asked s)) k v)) ∙ e))
 
   pub clean-printed : CleanPrinted s
-  clean-printed = record { only = only-by (verdict (whyRefusals s)) refl; each = each }
+  clean-printed = record { only = only-by (verdict (why_refusals s)) refl; each = each }
     where
-      each : Accepted s → cleanAsked s ≡ true → whyOf s ≡ cleanLine
+      each : Accepted s → clean_asked s ≡ true → why_of s ≡ clean_line
       each v h =
-          let b = batchAsked s in
-          line-is v ∙ ap (reasonLine (checksBy b.code) (wordAsked s)) ((clean-exactly b.code b.rule b.scale (valuesAsked s) b.limit).each h)
+          let b = batch_asked s in
+          line-is v ∙ ap (reason_line (checks_by b.code) (word_asked s)) ((clean-exactly b.code b.rule b.scale (values_asked s) b.limit).each h)

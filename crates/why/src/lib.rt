@@ -1,13 +1,13 @@
 // Why a frame of a batch is open, as a line of text: the program's input read, and what is printed for it written into a lent buffer.
 ghost use Rattle.std.specs.Prelude.{◌≡◌, [], false, ◌+◌, ◌<◌, ◌≤◌, length, take};
 ghost use Rattle.refusal.specs.Outcome.{judged};
-ghost use Rattle.refusal.specs.Answers.{statusOf};
+ghost use Rattle.refusal.specs.Answers.{status_of};
 ghost use Rattle.text.specs.Written.{Written};
-ghost use Rattle.batch.specs.Codes.{sizeN};
-ghost use Rattle.batch.specs.Pairs.{pairsOf, AllWithin};
+ghost use Rattle.batch.specs.Codes.{size_n};
+ghost use Rattle.batch.specs.Pairs.{pairs_of, AllWithin};
 ghost use Rattle.batch.specs.Calls.{lent, batch};
-ghost use Rattle.batch_input.specs.Input.{code_of, ruleOf, limitOf, scale_of, pairNumbers, values_of, malformed};
-ghost use Rattle.why.specs.Why.{askedRefusals, frame_at, frameLine, whyOf, askedLine};
+ghost use Rattle.batch_input.specs.Input.{code_of, rule_of, limit_of, scale_of, pair_numbers, values_of, malformed};
+ghost use Rattle.why.specs.Why.{asked_refusals, frame_at, frame_line, why_of, asked_line};
 
 use batch_refusals::Room;
 use refusal::{Refusal, Status};
@@ -25,8 +25,8 @@ fn word_room() -> [u8; 576]
 fn input_fault(place: u16, input: &[u8], values: &[f32], pairs: &[u32]) -> Status
     requires input_value { malformed input.now ≡ false }
     requires values_value { values.now ≡ values_of input.now }
-    requires pairs_value { pairs.now ≡ take 50 (pairNumbers input.now) }
-    ensures { statusOf result ≡ judged (askedRefusals place input.now) tt }
+    requires pairs_value { pairs.now ≡ take 50 (pair_numbers input.now) }
+    ensures { status_of result ≡ judged (asked_refusals place input.now) tt }
 {
     let head = batch_input::read_header(input);
     let frames = batch_input::pair_count(input);
@@ -55,12 +55,12 @@ fn input_fault(place: u16, input: &[u8], values: &[f32], pairs: &[u32]) -> Statu
 // The line of the frame that a pair names: so many pairs name frames within the values.
 fn explain(place: u16, input: &[u8], values: &[f32], pairs: &[u32], out: &mut [u8]) -> usize
     requires in_bounds { (12 ≤ length input.now) × (code_of input.now < 4) }
-    requires all_within { AllWithin (sizeN (code_of input.now)) (length values.now) (pairsOf pairs.now) }
-    requires place_in_bounds { place < length (pairsOf pairs.now) }
+    requires all_within { AllWithin (size_n (code_of input.now)) (length values.now) (pairs_of pairs.now) }
+    requires place_in_bounds { place < length (pairs_of pairs.now) }
     requires in_bounds_2 { 256 ≤ length out.old }
     ensures written { Written out.old 0
-        (let b = batch (code_of input.now) (ruleOf input.now) (limitOf input.now) (scale_of input.now)
-        values.now (pairsOf pairs.now) (lent [] [] [] [] []) in frameLine b (frame_at b place))
+        (let b = batch (code_of input.now) (rule_of input.now) (limit_of input.now) (scale_of input.now)
+        values.now (pairs_of pairs.now) (lent [] [] [] [] []) in frame_line b (frame_at b place))
         out.new result }
     ensures upper_bound { result ≤ 256 }
 {
@@ -88,9 +88,9 @@ fn explain(place: u16, input: &[u8], values: &[f32], pairs: &[u32], out: &mut [u
 fn why_frame(place: u16, input: &[u8], values: &[f32], pairs: &[u32], out: &mut [u8]) -> usize
     requires input_value { malformed input.now ≡ false }
     requires values_value { values.now ≡ values_of input.now }
-    requires pairs_value { pairs.now ≡ take 50 (pairNumbers input.now) }
+    requires pairs_value { pairs.now ≡ take 50 (pair_numbers input.now) }
     requires in_bounds { 256 ≤ length out.old }
-    ensures written { Written out.old 0 (askedLine place input.now) out.new result }
+    ensures written { Written out.old 0 (asked_line place input.now) out.new result }
     ensures upper_bound { result ≤ 256 }
 {
     if let Status::Refused(r) = input_fault(place, input, values, pairs) {
@@ -103,7 +103,7 @@ fn why_frame(place: u16, input: &[u8], values: &[f32], pairs: &[u32], out: &mut 
 fn why_input(place: u16, input: &[u8], out: &mut [u8]) -> usize
     requires input_value { malformed input.now ≡ false }
     requires in_bounds { 256 ≤ length out.old }
-    ensures written { Written out.old 0 (askedLine place input.now) out.new result }
+    ensures written { Written out.old 0 (asked_line place input.now) out.new result }
     ensures upper_bound { result ≤ 256 }
 {
     let mut pairs = batch_input::pairs_room();
@@ -116,7 +116,7 @@ fn why_input(place: u16, input: &[u8], out: &mut [u8]) -> usize
 // Why the frame at a place of a batch is open: the line at the front of the buffer; the answer is its length.
 pub fn why(input: &[u8], out: &mut [u8]) -> usize
     requires { 256 ≤ length out.old }
-    ensures written { Written out.old 0 (whyOf input.now) out.new result }
+    ensures written { Written out.old 0 (why_of input.now) out.new result }
     ensures upper_bound { result ≤ 256 }
 {
     if input.len() < 2 {

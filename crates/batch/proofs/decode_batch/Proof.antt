@@ -1,8 +1,8 @@
 -- `batch::decode_batch` meets its contract: the tests, and then the frames. Assumes nothing.
 use mathlib.Core.Path.{◌≡◌, sym, ap, ◌∙◌}
-use Rattle.refusal.specs.Answers.{statusOf}
+use Rattle.refusal.specs.Answers.{status_of}
 use Rattle.refusal.proofs.Judged.{verdict, nothing}
-use Rattle.batch.specs.Pairs.{pairsOf}
+use Rattle.batch.specs.Pairs.{pairs_of}
 use Rattle.batch.specs.Calls.{lent, Batch, batch, refusals}
 use Rattle.batch.proofs.Whole.{fitting, turned_down, carried-out}
 use borrow.Author.Rules.{rules}
@@ -18,10 +18,10 @@ entry c = c.before.before.before.before.before.before.before.before
 abbrev handed : tie.After-batch-fault → Batch
 handed c =
     let a = (entry c).args in
-    batch a.code a.rule a.limit a.scale a.values.now (pairsOf a.pairs.now)
+    batch a.code a.rule a.limit a.scale a.values.now (pairs_of a.pairs.now)
     (lent a.bits.now a.counts.now a.rounds.now a.firsts.now a.work.now)
 
-found : (c : tie.After-batch-fault) → verdict (refusals (handed c)) ≡ statusOf c.batch-fault.result
+found : (c : tie.After-batch-fault) → verdict (refusals (handed c)) ≡ status_of c.batch-fault.result
 found c = sym c.batch-fault.ensures
 
 -- nothing
@@ -29,7 +29,7 @@ abbrev tested : tie.After-enum-told → tie.After-batch-fault
 tested c = c.before.before
 
 good : (c : tie.After-enum-told) → verdict (refusals (handed (tested c))) ≡ nothing
-good c = found (tested c) ∙ ap statusOf c.enum_told.given.1
+good c = found (tested c) ∙ ap status_of c.enum_told.given.1
 
 -- ---- the needs
 
@@ -42,7 +42,7 @@ enum-known-r c = search rules
 returns : tie.Need-returns
 returns c =
     let t = c.before.before.before in
-    turned_down (handed t) _ (found t ∙ ap statusOf c.before.r.given.1)
+    turned_down (handed t) _ (found t ∙ ap status_of c.before.r.given.1)
 
 enum_told : tie.Need-enum-told
 enum_told c = search rules

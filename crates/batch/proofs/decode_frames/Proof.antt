@@ -3,22 +3,22 @@ use mathlib.Core.Path.{◌≡◌, sym, ap, subst, ◌∙◌}
 use Prim.Native.Nat.{ℕ, suc, ◌*◌, ◌-◌, ◌≤◌, ◌<◌}
 use native.Mathlib.Omega.{arith}
 use lib.ListN.{length, get_or}
-use Rattle.batch.specs.Codes.{sizeN, sizeK}
-use Rattle.batch.specs.Pairs.{pair, pairsOf, frame_of}
-use Rattle.batch.specs.Calls.{Lent, lent, Batch, batch, frameDecode}
+use Rattle.batch.specs.Codes.{size_n, size_k}
+use Rattle.batch.specs.Pairs.{pair, pairs_of, frame_of}
+use Rattle.batch.specs.Calls.{Lent, lent, Batch, batch, frame_decode}
 use Rattle.batch.specs.Steps.{PlaceFits, placed}
 use Rattle.work_area.proofs.Area.{cleared-length}
-use Rattle.batch.proofs.Frames.{pair_inside, offsetAt, offset-is, Going, going-none, going-fits, going_more, going_done}
+use Rattle.batch.proofs.Frames.{pair_inside, offset_at, offset-is, Going, going-none, going-fits, going_more, going_done}
 use borrow.Author.Rules.{rules}
 use Rattle.batch.proofs.decode_frames.Statement.{statement}
 use Rattle.batch.proofs.decode_frames.Tie as tie
 
 abbrev invariant-loop : tie.invariant-loop
 invariant-loop code rule scale limit values pairs bits₀ counts₀ rounds₀ firsts₀ work₀ j₀ bits counts rounds firsts work j =
-    Going (batch code rule limit scale values (pairsOf pairs) (lent bits₀ counts₀ rounds₀ firsts₀ work₀)) j (lent bits counts rounds firsts work)
+    Going (batch code rule limit scale values (pairs_of pairs) (lent bits₀ counts₀ rounds₀ firsts₀ work₀)) j (lent bits counts rounds firsts work)
 
 abbrev decreases-loop : tie.decreases-loop
-decreases-loop code rule scale limit values pairs bits₀ counts₀ rounds₀ firsts₀ work₀ j₀ bits counts rounds firsts work j = length (pairsOf pairs) - j
+decreases-loop code rule scale limit values pairs bits₀ counts₀ rounds₀ firsts₀ work₀ j₀ bits counts rounds firsts work j = length (pairs_of pairs) - j
 
 -- ---- places of the walk
 
@@ -34,7 +34,7 @@ start l = l.before.before.before.before.before.before.before.before
 abbrev handed : Loop → Batch
 handed l =
     let a = (start l).args in
-    batch a.code a.rule a.limit a.scale a.values.now (pairsOf a.pairs.now)
+    batch a.code a.rule a.limit a.scale a.values.now (pairs_of a.pairs.now)
     (lent a.bits.now a.counts.now a.rounds.now a.firsts.now a.work.now)
 
 -- the memory at a turn
@@ -48,7 +48,7 @@ place c = omega (arith, c.loop-test.true, c.before.loop.invariant.counts.size)
 inside : (c : Inside) → suc (c.before.loop.j * 2) < length (start c.before).args.pairs.now
 inside c = let a = (start c.before).args in pair_inside a.values.now a.pairs.now _ _ (start c.before).pre.inside (place c)
 
-offset : (c : Inside) → offsetAt (handed c.before).pairs c.before.loop.j ≡ get_or (start c.before).args.pairs.now (c.before.loop.j * 2) 0
+offset : (c : Inside) → offset_at (handed c.before).pairs c.before.loop.j ≡ get_or (start c.before).args.pairs.now (c.before.loop.j * 2) 0
 offset c = let a = (start c.before).args in offset-is a.values.now a.pairs.now _ _ (start c.before).pre.inside (place c)
 
 -- after the call
@@ -97,7 +97,7 @@ loop-again c =
     let b = handed l in
     going_more (start l).pre l.loop.inv (place i)
     (d.decode-place.ensures
-    ∙ ap (λ (o : ℕ). placed (frameDecode b (frame_of b.values (pair o (sizeN b.code)))) b.limit (sizeK b.code) l.loop.j (memory l))
+    ∙ ap (λ (o : ℕ). placed (frame_decode b (frame_of b.values (pair o (size_n b.code)))) b.limit (size_k b.code) l.loop.j (memory l))
     (sym (offset i)))
     (search rules) (search rules)
 

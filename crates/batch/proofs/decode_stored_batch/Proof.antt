@@ -1,5 +1,5 @@
 -- `batch::decode_stored_batch` meets its contract: that of the batch, at the rule as it was meant. Assumes nothing.
-use Rattle.batch.proofs.Whole.{at-rule}
+use Rattle.batch.proofs.Whole.{at_rule}
 use borrow.Author.Rules.{rules}
 use Rattle.batch.proofs.decode_stored_batch.Statement.{statement}
 use Rattle.batch.proofs.decode_stored_batch.Tie as tie
@@ -39,7 +39,7 @@ same-length-5 : tie.Need-same-length-5
 same-length-5 c = search rules
 
 returns : tie.Need-returns
-returns c = let done = decoded c in at-rule (named done).stored-rule.ensures done.decode-batch.ensures
+returns c = let done = decoded c in at_rule (named done).stored-rule.ensures done.decode-batch.ensures
 
 pub decode-stored-batch-spec : {M : Type 1} → statement M
 decode-stored-batch-spec =

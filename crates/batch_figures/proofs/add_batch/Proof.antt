@@ -1,11 +1,11 @@
 -- `batch_figures::add_batch` meets its contract: the tests, and then the frames of results that passed them.
 use mathlib.Core.Path.{◌≡◌, sym, ap, ◌∙◌}
-use Rattle.refusal.specs.Answers.{statusOf}
-use Rattle.refusal.proofs.Judged.{verdict, nothing, judged-past, judged-front}
-use Rattle.batch.specs.Pairs.{pairsOf}
-use Rattle.figures.specs.Totals.{totalsOf, sums, joinRefusals}
+use Rattle.refusal.specs.Answers.{status_of}
+use Rattle.refusal.proofs.Judged.{verdict, nothing, judged_past, judged-front}
+use Rattle.batch.specs.Pairs.{pairs_of}
+use Rattle.figures.specs.Totals.{totals_of, sums, join_refusals}
 use Rattle.figures.specs.declared.Totals.{Totals}
-use Rattle.batch_figures.specs.Results.{Results, results, batchFrames, resultRefusals}
+use Rattle.batch_figures.specs.Results.{Results, results, batch_frames, result_refusals}
 use Rattle.batch_figures.proofs.Refusals.{fitting}
 use borrow.Author.Rules.{rules}
 use Rattle.batch_figures.proofs.add_batch.Statement.{statement}
@@ -18,17 +18,17 @@ entry c = c.before.before.before.before.before.before
 
 -- the results, the total of their frames, and what the tests found
 abbrev handed : tie.After-results-fault → Results
-handed c = let a = (entry c).args in results a.code a.values.now (pairsOf a.pairs.now) a.bits.now a.counts.now a.rounds.now
+handed c = let a = (entry c).args in results a.code a.values.now (pairs_of a.pairs.now) a.bits.now a.counts.now a.rounds.now
 
 abbrev more : tie.After-results-fault → Totals
-more c = totalsOf (batchFrames (handed c))
+more c = totals_of (batch_frames (handed c))
 
-found : (c : tie.After-results-fault) → verdict (resultRefusals (handed c)) ≡ statusOf c.results-fault.result
+found : (c : tie.After-results-fault) → verdict (result_refusals (handed c)) ≡ status_of c.results-fault.result
 found c = sym c.results-fault.ensures
 
 -- nothing
-good : (c : tie.After-enum-told) → verdict (resultRefusals (handed c.before.before)) ≡ nothing
-good c = found c.before.before ∙ ap statusOf c.enum_told.given.1
+good : (c : tie.After-enum-told) → verdict (result_refusals (handed c.before.before)) ≡ nothing
+good c = found c.before.before ∙ ap status_of c.enum_told.given.1
 
 -- ---- the needs
 
@@ -42,7 +42,7 @@ returns : tie.Need-returns
 returns c =
     let t = c.before.before.before in
     let total = (entry t).args.total in
-    sym (judged-front (resultRefusals (handed t)) (joinRefusals total (more t)) (sums total (more t)) _ (found t ∙ ap statusOf c.before.r.given.1))
+    sym (judged-front (result_refusals (handed t)) (join_refusals total (more t)) (sums total (more t)) _ (found t ∙ ap status_of c.before.r.given.1))
 
 enum_told : tie.Need-enum-told
 enum_told c = search rules
@@ -57,7 +57,7 @@ returns-2 c =
     let told = c.before in
     let t = told.before.before in
     let total = (entry t).args.total in
-    c.add-frames.ensures ∙ sym (judged-past (resultRefusals (handed t)) (joinRefusals total (more t)) (sums total (more t)) (good told))
+    c.add-frames.ensures ∙ sym (judged_past (result_refusals (handed t)) (join_refusals total (more t)) (sums total (more t)) (good told))
 
 pub add-batch-spec : {M : Type 1} → statement M
 add-batch-spec =

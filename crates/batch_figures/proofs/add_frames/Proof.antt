@@ -5,25 +5,25 @@ use native.Mathlib.Nat.{sub-zero}
 use native.Mathlib.Omega.{arith}
 use lib.ListN.{length, get_or}
 use Rattle.refusal.specs.Outcome.{Outcome}
-use Rattle.batch.specs.Pairs.{pairsOf}
-use Rattle.figures.specs.Totals.{Frame, summedOf}
+use Rattle.batch.specs.Pairs.{pairs_of}
+use Rattle.figures.specs.Totals.{Frame, summed_of}
 use Rattle.figures.specs.declared.Totals.{Totals}
 use Rattle.figures.proofs.Limits.{Within}
-use Rattle.batch_figures.specs.Results.{Results, results, frame_at, framesFrom, batchFrames}
-use Rattle.batch_figures.specs.Steps.{withFrame, withFrames}
-use Rattle.batch_figures.proofs.Frames.{frames-more, frames-none, frames-added}
+use Rattle.batch_figures.specs.Results.{Results, results, frame_at, frames_from, batch_frames}
+use Rattle.batch_figures.specs.Steps.{with_frame, with_frames}
+use Rattle.batch_figures.proofs.Frames.{frames_more, frames-none, frames-added}
 use borrow.Author.Rules.{rules}
 use Rattle.batch_figures.proofs.add_frames.Statement.{statement}
 use Rattle.batch_figures.proofs.add_frames.Tie as tie
 
 abbrev invariant-loop : tie.invariant-loop
 invariant-loop code values pairs bits counts rounds sum₀ j₀ sum j =
-    let n = length (pairsOf pairs) in
-    let frame = frame_at (results code values (pairsOf pairs) bits counts rounds) in
-    (j ≤ n) × (withFrames (summedOf sum) (framesFrom frame j (n - j)) ≡ withFrames (summedOf sum₀) (framesFrom frame 0 n))
+    let n = length (pairs_of pairs) in
+    let frame = frame_at (results code values (pairs_of pairs) bits counts rounds) in
+    (j ≤ n) × (with_frames (summed_of sum) (frames_from frame j (n - j)) ≡ with_frames (summed_of sum₀) (frames_from frame 0 n))
 
 abbrev decreases-loop : tie.decreases-loop
-decreases-loop code values pairs bits counts rounds sum₀ j₀ sum j = length (pairsOf pairs) - j
+decreases-loop code values pairs bits counts rounds sum₀ j₀ sum j = length (pairs_of pairs) - j
 
 -- ---- places of the walk
 
@@ -34,7 +34,7 @@ abbrev start : Loop → tie.Start invariant-loop decreases-loop
 start l = l.before.before.before.before.before.before
 
 abbrev handed : Loop → Results
-handed l = let a = (start l).args in results a.code a.values.now (pairsOf a.pairs.now) a.bits.now a.counts.now a.rounds.now
+handed l = let a = (start l).args in results a.code a.values.now (pairs_of a.pairs.now) a.bits.now a.counts.now a.rounds.now
 
 abbrev many : Loop → ℕ
 many l = length (handed l).pairs
@@ -85,23 +85,23 @@ loop-less : tie.Need-loop-smaller invariant-loop decreases-loop
 loop-less c = omega (arith, place c.before.before.before.before)
 
 loop-again : tie.Need-loop-preserved invariant-loop decreases-loop
-unfolding withFrames
+unfolding with_frames
 loop-again c =
     let called = c.before.before.before in
     let i = called.before in
     let l = i.before in
-    let rest = framesFrom (frame_at (handed l)) (l.loop.j + 1) (many l - (l.loop.j + 1)) in
-    let one = c.with-frame.ensures ∙ ap (withFrame (summedOf l.loop.sum)) (same-frame called) in
-    let more = rw (frames-more (frame_at (handed l)) l.loop.j (many l) (place i)) at l.loop.invariant.1 in
-    (omega (arith, place i), ap (λ (s : Outcome Totals). withFrames s rest) one ∙ more)
+    let rest = frames_from (frame_at (handed l)) (l.loop.j + 1) (many l - (l.loop.j + 1)) in
+    let one = c.with-frame.ensures ∙ ap (with_frame (summed_of l.loop.sum)) (same-frame called) in
+    let more = rw (frames_more (frame_at (handed l)) l.loop.j (many l) (place i)) at l.loop.invariant.1 in
+    (omega (arith, place i), ap (λ (s : Outcome Totals). with_frames s rest) one ∙ more)
 
 returns : tie.Need-returns invariant-loop decreases-loop
-unfolding withFrames batchFrames
+unfolding with_frames batch_frames
 returns c =
     let l = c.before in
     let end : many l ≤ l.loop.j = omega (arith, c.loop-test.false, (start l).requires.1.1.0.0) in
     rw (frames-none (frame_at (handed l)) l.loop.j (many l) end) at l.loop.invariant.1
-    ∙ frames-added (start l).args.total (framesFrom (frame_at (handed l)) 0 (many l)) (within l)
+    ∙ frames-added (start l).args.total (frames_from (frame_at (handed l)) 0 (many l)) (within l)
 
 pub add-frames-spec : {M : Type 1} → statement M
 add-frames-spec =

@@ -1,6 +1,6 @@
 -- `batch_figures::results_fault` meets its contract: the batch's own tests, of a room with the outputs' lengths.
 use mathlib.Core.Path.{sym, ◌∙◌}
-use Rattle.batch.specs.Pairs.{pairsOf}
+use Rattle.batch.specs.Pairs.{pairs_of}
 use Rattle.batch.proofs.Pairs.{pairs-length}
 use Rattle.batch_figures.specs.Results.{results}
 use Rattle.batch_figures.proofs.Refusals.{as-batch}
@@ -14,7 +14,7 @@ batch-fault-requires c κs = search rules
 returns : tie.Need-returns
 returns c =
     let a = c.before.before.before.before.before.before.args in
-    let r = results a.code a.values.now (pairsOf a.pairs.now) a.bits.now a.counts.now a.rounds.now in
+    let r = results a.code a.values.now (pairs_of a.pairs.now) a.bits.now a.counts.now a.rounds.now in
     c.batch-fault.ensures ∙ as-batch r _ (sym (pairs-length a.pairs.now))
 
 pub results-fault-spec : {M : Type 1} → statement M

@@ -1,10 +1,10 @@
 -- `batch_figures::with_frame` meets its contract: a refused sum stays, and a total is joined with what the frame adds.
 use mathlib.Core.Path.{sym, ap, ◌∙◌}
 use Rattle.refusal.specs.Outcome.{judged}
-use Rattle.figures.specs.Totals.{Frame, summedOf, joinRefusals, sums}
+use Rattle.figures.specs.Totals.{Frame, summed_of, join_refusals, sums}
 use Rattle.figures.specs.declared.Totals.{Totals}
 use Rattle.figures.specs.declared.Summed.{Summed}
-use Rattle.batch_figures.specs.Steps.{withFrame}
+use Rattle.batch_figures.specs.Steps.{with_frame}
 use borrow.Author.Rules.{rules}
 use Rattle.batch_figures.proofs.with_frame.Statement.{statement}
 use Rattle.batch_figures.proofs.with_frame.Tie as tie
@@ -28,7 +28,7 @@ enum_told : tie.Need-enum-told
 enum_told c = search rules
 
 returns : tie.Need-returns
-unfolding withFrame
+unfolding with_frame
 returns c = search rules
 
 of-frame-requires : tie.Need-of-frame-requires
@@ -38,12 +38,12 @@ join-requires : tie.Need-join-requires
 join-requires c κs = search rules
 
 returns-2 : tie.Need-returns-2
-unfolding withFrame
+unfolding with_frame
 returns-2 c =
     let s = c.before.before.before in
     c.join.ensures
-    ∙ ap (λ (x : Totals). judged (joinRefusals (total s) x) (sums (total s) x)) c.before.of-frame.ensures
-    ∙ sym (ap (λ (x : Summed). withFrame (summedOf x) (frame s)) s.sum.given.1)
+    ∙ ap (λ (x : Totals). judged (join_refusals (total s) x) (sums (total s) x)) c.before.of-frame.ensures
+    ∙ sym (ap (λ (x : Summed). with_frame (summed_of x) (frame s)) s.sum.given.1)
 
 pub with-frame-spec : {M : Type 1} → statement M
 with-frame-spec =

@@ -7,7 +7,7 @@ use Prim.Native.Nat.{ℕ, ◌-◌, ◌%◌, ◌<◌, ◌≤◌}
 use lib.Dec.{eqb}
 use lib.ListN.{length, get_or}
 use borrow.Author.Tests.{lt-ltb, le-ltb, eq-eqb, ne_eqb}
-use Rattle.batch_input.specs.Input.{valuesStart, malformed}
+use Rattle.batch_input.specs.Input.{values_start, malformed}
 use borrow.Author.Rules.{rules}
 use Rattle.batch_input.proofs.is_malformed.Statement.{statement}
 use Rattle.batch_input.proofs.is_malformed.Tie as tie
@@ -33,15 +33,15 @@ module _ (s : List ℕ) where
     second-filler d h = simp (le-ltb 65536 (length s) a, le-ltb (length s) 12 b, eq-eqb (get_or s 10 0) 0 d, ne_eqb (get_or s 11 0) 0 h)
 
     module _ (d : get_or s 10 0 ≡ 0) (e : get_or s 11 0 ≡ 0) where
-      pairs-cut : length s < valuesStart s → true ≡ malformed s
+      pairs-cut : length s < values_start s → true ≡ malformed s
       unfolding malformed
       pairs-cut h =
-          simp (le-ltb 65536 (length s) a, le-ltb (length s) 12 b, eq-eqb (get_or s 10 0) 0 d, eq-eqb (get_or s 11 0) 0 e, lt-ltb (length s) (valuesStart s) h)
+          simp (le-ltb 65536 (length s) a, le-ltb (length s) 12 b, eq-eqb (get_or s 10 0) 0 d, eq-eqb (get_or s 11 0) 0 e, lt-ltb (length s) (values_start s) h)
 
-      value-cut : valuesStart s ≤ length s → not (eqb ((length s - valuesStart s) % 4) 0) ≡ malformed s
+      value-cut : values_start s ≤ length s → not (eqb ((length s - values_start s) % 4) 0) ≡ malformed s
       unfolding malformed
       value-cut h =
-          simp (le-ltb 65536 (length s) a, le-ltb (length s) 12 b, eq-eqb (get_or s 10 0) 0 d, eq-eqb (get_or s 11 0) 0 e, le-ltb (length s) (valuesStart s) h)
+          simp (le-ltb 65536 (length s) a, le-ltb (length s) 12 b, eq-eqb (get_or s 10 0) 0 d, eq-eqb (get_or s 11 0) 0 e, le-ltb (length s) (values_start s) h)
 
 -- ---- the branches
 

@@ -3,21 +3,21 @@ use native.Mathlib.Omega.{arith}
 use mathlib.Core.Path.{◌≡◌, refl, ap, ◌∙◌}
 use Prim.Native.Nat.{◌-◌, ◌≤◌}
 use lib.ListN.{length, take, length-set}
-use Rattle.batch_input.specs.Input.{u32sFrom, floatOf}
+use Rattle.batch_input.specs.Input.{u32s_from, float_of}
 use Rattle.batch_input.proofs.Load.{load-more, load-none, load-done}
 use borrow.Author.Rules.{rules}
 use Rattle.batch_input.proofs.load_values.Statement.{statement}
 use Rattle.batch_input.proofs.load_values.Tie as tie
 
 abbrev invariant-loop : tie.invariant-loop
-invariant-loop input at values₀ i₀ values i = (i ≤ length values₀) × (length values ≡ length values₀) × (take i values ≡ u32sFrom floatOf input at i)
+invariant-loop input at values₀ i₀ values i = (i ≤ length values₀) × (length values ≡ length values₀) × (take i values ≡ u32s_from float_of input at i)
 
 abbrev decreases-loop : tie.decreases-loop
 decreases-loop input at values₀ i₀ values i = length values₀ - i
 
 loop-holds : tie.Need-loop-init invariant-loop decreases-loop
 loop-holds c =
-    (search rules, refl, load-none floatOf c.before.before.args.input.now c.before.before.args.at c.before.before.args.values.now)
+    (search rules, refl, load-none float_of c.before.before.args.input.now c.before.before.args.at c.before.before.args.values.now)
 
 mul-u32-at : tie.Need-overflow-mul-u32-at invariant-loop decreases-loop
 mul-u32-at c = search rules
@@ -49,8 +49,8 @@ loop-again c =
     let now = c.before.before.before.loop in (
       omega arith,
       simp length-set (omega arith),
-      load-more floatOf start.args.input.now start.args.at now.values now.i _ (omega arith)
-          (c.float_of.ensures ∙ ap floatOf c.before.u32-at.ensures) now.invariant.2,
+      load-more float_of start.args.input.now start.args.at now.values now.i _ (omega arith)
+          (c.float_of.ensures ∙ ap float_of c.before.u32-at.ensures) now.invariant.2,
     )
 
 same_length : tie.Need-same-length invariant-loop decreases-loop
@@ -60,7 +60,7 @@ returns : tie.Need-returns invariant-loop decreases-loop
 returns c =
     let start = c.before.before.before.before in
     let now = c.before.loop in
-    load-done floatOf start.args.input.now start.args.at now.values now.i (length start.args.values.now) (omega arith) (omega arith) now.invariant.2
+    load-done float_of start.args.input.now start.args.at now.values now.i (length start.args.values.now) (omega arith) (omega arith) now.invariant.2
 
 pub load-values-spec : {M : Type 1} → statement M
 load-values-spec =

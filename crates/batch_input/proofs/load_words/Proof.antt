@@ -3,14 +3,14 @@ use native.Mathlib.Omega.{arith}
 use mathlib.Core.Path.{◌≡◌, refl}
 use Prim.Native.Nat.{◌-◌, ◌≤◌}
 use lib.ListN.{length, take, length-set}
-use Rattle.batch_input.specs.Input.{u32sFrom}
+use Rattle.batch_input.specs.Input.{u32s_from}
 use Rattle.batch_input.proofs.Load.{load-more, load-none, load-done}
 use borrow.Author.Rules.{rules}
 use Rattle.batch_input.proofs.load_words.Statement.{statement}
 use Rattle.batch_input.proofs.load_words.Tie as tie
 
 abbrev invariant-loop : tie.invariant-loop
-invariant-loop input at words₀ i₀ words i = (i ≤ length words₀) × (length words ≡ length words₀) × (take i words ≡ u32sFrom (λ w. w) input at i)
+invariant-loop input at words₀ i₀ words i = (i ≤ length words₀) × (length words ≡ length words₀) × (take i words ≡ u32s_from (λ w. w) input at i)
 
 abbrev decreases-loop : tie.decreases-loop
 decreases-loop input at words₀ i₀ words i = length words₀ - i

@@ -1,7 +1,7 @@
 -- `batch_input::read_header` meets its contract: each number from its place. Assumes nothing.
 use mathlib.Core.Path.{refl, ap, ◌∙◌}
 use native.Mathlib.Omega.{arith}
-use Rattle.batch_input.specs.Input.{floatOf}
+use Rattle.batch_input.specs.Input.{float_of}
 use borrow.Author.Rules.{rules}
 use Rattle.batch_input.proofs.read_header.Statement.{statement}
 use Rattle.batch_input.proofs.read_header.Tie as tie
@@ -29,7 +29,7 @@ float-of-requires c κs = search rules
 
 returns : tie.Need-returns
 returns c =
-    record { code = refl; rule = refl; limit = c.before.before.u16-at.ensures; scale = c.float_of.ensures ∙ ap floatOf c.before.u32-at.ensures }
+    record { code = refl; rule = refl; limit = c.before.before.u16-at.ensures; scale = c.float_of.ensures ∙ ap float_of c.before.u32-at.ensures }
 
 pub read-header-spec : {M : Type 1} → statement M
 read-header-spec =

@@ -3,8 +3,8 @@ use mathlib.Core.Path.{◌≡◌, sym, ap, ◌∙◌}
 use Prim.Native.Nat.{ℕ, ◌*◌, ◌≤◌, min}
 use native.Mathlib.Omega.{arith}
 use lib.ListN.{length}
-use Rattle.batch_input.specs.Input.{pairCount, u32sFrom}
-use Rattle.batch_input.proofs.Handed.{words-read}
+use Rattle.batch_input.specs.Input.{pair_count, u32s_from}
+use Rattle.batch_input.proofs.Handed.{words_read}
 use Rattle.batch_input.proofs.Room.{part_length, back, back_fits}
 use Rattle.batch_input.proofs.Wellformed.{Wellformed, wellformed}
 use borrow.Author.Rules.{rules}
@@ -18,7 +18,7 @@ good : (c : tie.After-words-passed) → Wellformed (entry c).args.input.now
 good c = wellformed (entry c).args.input.now (entry c).requires.0
 
 -- how many numbers there are
-words_are : (c : tie.After-words-passed) → c.words-passed.result ≡ min 50 (2 * pairCount (entry c).args.input.now)
+words_are : (c : tie.After-words-passed) → c.words-passed.result ≡ min 50 (2 * pair_count (entry c).args.input.now)
 words_are c = c.words-passed.ensures ∙ ap (λ (n : ℕ). min 50 (2 * n)) c.before.pair-count.ensures.0
 
 fits : (c : tie.After-words-passed) → c.words-passed.result ≤ length (entry c).args.pairs.now
@@ -53,7 +53,7 @@ returns c =
     let room = (entry w).args.pairs.now in
     let left = done.load-words.new.1.1.0 in
     let same = done.load-words.auto.1.1.0 in
-    let read = done.load-words.ensures ∙ ap (λ (k : ℕ). u32sFrom (λ x. x) s 12 k) (sym (part_length room n (fits w))) ∙ words-read s n (words_are w) in
+    let read = done.load-words.ensures ∙ ap (λ (k : ℕ). u32s_from (λ x. x) s 12 k) (sym (part_length room n (fits w))) ∙ words_read s n (words_are w) in
     record { fits = back_fits room n (fits w) left same; front = back room n (fits w) left same ∙ read }
 
 pub read-pairs-spec : {M : Type 1} → statement M

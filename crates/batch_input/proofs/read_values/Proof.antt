@@ -3,7 +3,7 @@ use mathlib.Core.Path.{sym, ap, ◌∙◌}
 use Prim.Native.Nat.{ℕ, ◌-◌, ◌/◌, ◌≤◌}
 use native.Mathlib.Omega.{arith}
 use lib.ListN.{length}
-use Rattle.batch_input.specs.Input.{values_of, floatOf, u32sFrom}
+use Rattle.batch_input.specs.Input.{values_of, float_of, u32s_from}
 use Rattle.batch_input.proofs.Room.{part_length, back, back_fits}
 use Rattle.batch_input.proofs.Wellformed.{Wellformed, wellformed}
 use borrow.Author.Rules.{rules}
@@ -52,8 +52,8 @@ returns c =
     let room = (entry w).args.values.now in
     let left = done.load-values.new.1.1.0 in
     let same = done.load-values.auto.1.1.0 in
-    let count = ap (λ (k : ℕ). u32sFrom floatOf s w.values-start.result k) (sym (part_length room (N w) (fits w))) in
-    let start = ap (λ (a : ℕ). u32sFrom floatOf s a ((length s - a) / 4)) w.values-start.ensures in
+    let count = ap (λ (k : ℕ). u32s_from float_of s w.values-start.result k) (sym (part_length room (N w) (fits w))) in
+    let start = ap (λ (a : ℕ). u32s_from float_of s a ((length s - a) / 4)) w.values-start.ensures in
     record { fits = back_fits room (N w) (fits w) left same; front = back room (N w) (fits w) left same ∙ done.load-values.ensures ∙ count ∙ start }
 
 pub read-values-spec : {M : Type 1} → statement M

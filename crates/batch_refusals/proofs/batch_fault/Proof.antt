@@ -2,10 +2,10 @@
 use mathlib.Core.Path.{◌≡◌, sym, ap, ◌∙◌}
 use Prim.Native.Nat.{ℕ}
 use lib.ListN.{length}
-use Rattle.refusal.specs.Answers.{statusOf}
+use Rattle.refusal.specs.Answers.{status_of}
 use Rattle.refusal.proofs.Judged.{verdict}
-use Rattle.batch_refusals.specs.Pairs.{pairsOf}
-use Rattle.batch_refusals.specs.Refusals.{headRefusals, pairRefusals}
+use Rattle.batch_refusals.specs.Pairs.{pairs_of}
+use Rattle.batch_refusals.specs.Refusals.{head_refusals, pair_refusals}
 use Rattle.batch_refusals.proofs.Pairs.{pairs-length}
 use Rattle.batch_refusals.proofs.Whole.{head-refused, head_passed}
 use borrow.Author.Rules.{rules}
@@ -17,10 +17,10 @@ entry c = c.before.before
 
 -- what the test of the numbers and lengths found is what the definition says
 head-is : (c : tie.After-head-fault) → let a = (entry c).args in
-    verdict (headRefusals a.code a.rule (length (pairsOf a.pairs.now)) a.room) ≡ statusOf c.head-fault.result
+    verdict (head_refusals a.code a.rule (length (pairs_of a.pairs.now)) a.room) ≡ status_of c.head-fault.result
 head-is c =
     let a = (entry c).args in
-    sym (c.head-fault.ensures ∙ ap (λ (n : ℕ). verdict (headRefusals a.code a.rule n a.room)) (sym (pairs-length a.pairs.now)))
+    sym (c.head-fault.ensures ∙ ap (λ (n : ℕ). verdict (head_refusals a.code a.rule n a.room)) (sym (pairs-length a.pairs.now)))
 
 head-fault-requires : tie.Need-head-fault-requires
 head-fault-requires c κs = search rules
@@ -32,7 +32,7 @@ returns : tie.Need-returns
 returns c =
     let t = c.before.before.before in
     let a = (entry t).args in
-    sym (head-refused a.code a.rule a.values (pairsOf a.pairs.now) a.room _ (head-is t ∙ ap statusOf c.before.r.given.1))
+    sym (head-refused a.code a.rule a.values (pairs_of a.pairs.now) a.room _ (head-is t ∙ ap status_of c.before.r.given.1))
 
 enum_told : tie.Need-enum-told
 enum_told c = search rules
@@ -49,10 +49,10 @@ returns-2 c =
     let told = named.before in
     let t = told.before.before in
     let a = (entry t).args in
-    let ps = pairsOf a.pairs.now in
+    let ps = pairs_of a.pairs.now in
     c.pairs-fault.ensures
-    ∙ ap (λ (n : ℕ). verdict (pairRefusals n a.values 0 ps)) named.frame-values.ensures
-    ∙ sym (head_passed a.code a.rule a.values ps a.room (head-is t ∙ ap statusOf told.enum_told.given.1))
+    ∙ ap (λ (n : ℕ). verdict (pair_refusals n a.values 0 ps)) named.frame-values.ensures
+    ∙ sym (head_passed a.code a.rule a.values ps a.room (head-is t ∙ ap status_of told.enum_told.given.1))
 
 pub batch-fault-spec : {M : Type 1} → statement M
 batch-fault-spec =

@@ -5,8 +5,8 @@ use borrow.Author.Tests.{lt-ltb, le-ltb, eq-eqb, ne_eqb}
 use native.Mathlib.Omega.{arith}
 use Prim.Native.Nat.{ℕ, ◌*◌}
 use lib.Dec.{eqb, ltb}
-use Rattle.numbered.specs.Codes.{sizeK}
-use Rattle.batch_refusals.specs.Refusals.{ruleNotOfCode}
+use Rattle.numbered.specs.Codes.{size_k}
+use Rattle.batch_refusals.specs.Refusals.{rule_not_of_code}
 use Rattle.batch_refusals.proofs.Sizes.{product_small}
 use borrow.Author.Rules.{rules}
 use Rattle.batch_refusals.proofs.head_fault.Statement.{statement}
@@ -20,7 +20,7 @@ code-right c = le-ltb _ _ c.if1.false
 rule-right : (c : tie.Else2) → ltb 4 c.before.before.args.rule ≡ false
 rule-right c = le-ltb _ _ c.if2.false
 
-rule-of-code : (c : tie.Else3) → let a = c.before.before.before.before.args in ruleNotOfCode a.code a.rule ≡ false
+rule-of-code : (c : tie.Else3) → let a = c.before.before.before.before.args in rule_not_of_code a.code a.rule ≡ false
 rule-of-code c = sym c.before.rule-not-of-code.ensures ∙ c.if3.false
 
 -- from where the pairs are few enough: the entry and the tests above
@@ -34,13 +34,13 @@ few : (c : tie.Else4) → ltb 24 (entry c).args.pairs ≡ false
 few c = le-ltb _ _ c.if4.false
 
 -- the room for the bits, as computed and as defined
-bits-room : (c : tie.After-message-bits) → let a = (entry c.before).args in a.pairs * c.message-bits.result ≡ a.pairs * sizeK a.code
+bits-room : (c : tie.After-message-bits) → let a = (entry c.before).args in a.pairs * c.message-bits.result ≡ a.pairs * size_k a.code
 bits-room c = ap (λ (k : ℕ). (entry c.before).args.pairs * k) c.message-bits.ensures
 
 abbrev fourth : tie.Else5 → tie.Else4
 fourth c = c.before.before.before
 
-bits-right : (c : tie.Else5) → let a = (entry (fourth c)).args in eqb a.room.bits (a.pairs * sizeK a.code) ≡ true
+bits-right : (c : tie.Else5) → let a = (entry (fourth c)).args in eqb a.room.bits (a.pairs * size_k a.code) ≡ true
 bits-right c = eq-eqb _ _ (c.if5.false ∙ bits-room c.before.before)
 
 abbrev fifth : tie.Else6 → tie.Else5

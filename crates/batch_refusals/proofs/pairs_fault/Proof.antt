@@ -4,17 +4,17 @@ use Prim.Native.Nat.{◌-◌, ◌≤◌}
 use native.Mathlib.Omega.{arith}
 use lib.ListN.{length, drop}
 use Rattle.refusal.proofs.Judged.{verdict}
-use Rattle.batch_refusals.specs.Pairs.{pairsOf}
-use Rattle.batch_refusals.specs.Refusals.{pairRefusals}
-use Rattle.batch_refusals.specs.Steps.{seenOf}
-use Rattle.batch_refusals.proofs.Pairs.{seenFrom, seen-pairs, seen_more, seen_last, pairs_next, pairs-done}
+use Rattle.batch_refusals.specs.Pairs.{pairs_of}
+use Rattle.batch_refusals.specs.Refusals.{pair_refusals}
+use Rattle.batch_refusals.specs.Steps.{seen_of}
+use Rattle.batch_refusals.proofs.Pairs.{seen_from, seen-pairs, seen_more, seen_last, pairs_next, pairs-done}
 use borrow.Author.Rules.{rules}
 use Rattle.batch_refusals.proofs.pairs_fault.Statement.{statement}
 use Rattle.batch_refusals.proofs.pairs_fault.Tie as tie
 
 abbrev invariant-loop : tie.invariant-loop
 invariant-loop n values pairs seen₀ i₀ seen i =
-    (i ≤ length pairs) × (seenFrom n values (seenOf seen) (pairsOf (drop i pairs)) ≡ verdict (pairRefusals n values 0 (pairsOf pairs)))
+    (i ≤ length pairs) × (seen_from n values (seen_of seen) (pairs_of (drop i pairs)) ≡ verdict (pair_refusals n values 0 (pairs_of pairs)))
 
 abbrev decreases-loop : tie.decreases-loop
 decreases-loop n values pairs seen₀ i₀ seen i = length pairs - i
@@ -53,7 +53,7 @@ loop-again : tie.Need-loop-preserved invariant-loop decreases-loop
 loop-again c =
     let turn = c.before.before.before in
     let l = turn.before.loop in
-    (omega arith, seen_more _ _ (seenOf l.seen) _ _ c.next-pair.ensures (rw (pairs_next _ _ turn.loop-test.true) at l.invariant.1))
+    (omega arith, seen_more _ _ (seen_of l.seen) _ _ c.next-pair.ensures (rw (pairs_next _ _ turn.loop-test.true) at l.invariant.1))
 
 seen-all-requires : tie.Need-seen-all-requires invariant-loop decreases-loop
 seen-all-requires c κs = search rules
@@ -61,7 +61,7 @@ seen-all-requires c κs = search rules
 returns : tie.Need-returns invariant-loop decreases-loop
 returns c =
     let l = c.before.before.loop in
-    c.seen_all.ensures ∙ seen_last _ _ (seenOf l.seen) (rw (pairs-done _ _ c.before.loop-test.false) at l.invariant.1)
+    c.seen_all.ensures ∙ seen_last _ _ (seen_of l.seen) (rw (pairs-done _ _ c.before.loop-test.false) at l.invariant.1)
 
 pub pairs-fault-spec : {M : Type 1} → statement M
 pairs-fault-spec =

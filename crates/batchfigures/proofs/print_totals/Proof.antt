@@ -4,14 +4,14 @@ use Prim.Native.Nat.{◌≤◌}
 use native.Mathlib.Omega.{arith}
 use lib.ListN.{length}
 use lib.Seq.{length-take-le}
-use Rattle.figure_lines.proofs.Lengths.{totals-short}
+use Rattle.figure_lines.proofs.Lengths.{totals_short}
 use borrow.Author.Rules.{rules}
 use Rattle.batchfigures.proofs.print_totals.Statement.{statement}
 use Rattle.batchfigures.proofs.print_totals.Tie as tie
 
 -- the line is short, and the buffer as long as it was
 fits : (l : tie.After-totals-line) → l.totals-line.result ≤ length l.totals-line.new.0
-fits l = omega (arith, l.totals-line.ensures.end, totals-short l.before.before.before.args.total)
+fits l = omega (arith, l.totals-line.ensures.end, totals_short l.before.before.before.args.total)
 
 buffer-requires : tie.Need-buffer-requires
 buffer-requires c κs = search rules

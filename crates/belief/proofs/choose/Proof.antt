@@ -1,7 +1,7 @@
 -- `belief::choose` meets its contract: the initial word, its count and its front, and then the rounds. Assumes nothing.
 use mathlib.Core.Path.{sym, ◌∙◌}
 use native.Mathlib.Omega.{arith}
-use Rattle.belief.proofs.Whole.{initial-is, initial-kept}
+use Rattle.belief.proofs.Whole.{initial_is, initial-kept}
 use borrow.Author.Rules.{rules}
 use borrow.Author.Rules.{rules}
 use Rattle.belief.proofs.choose.Statement.{statement}
@@ -42,7 +42,7 @@ improve-requires c κs =
         (
           p.1.1.0,
           (
-            initial-is a.code a.rule a.llr.now _ word,
+            initial_is a.code a.rule a.llr.now _ word,
             (
               omega (arith, size, p.1.1.1.1),
               initial-kept a.code a.rule a.llr.now _ _ _ _ _ word counted.counted.ensures kept.keep_word.ensures (sym size),

@@ -3,7 +3,7 @@ use mathlib.Core.Path.{sym, ◌∙◌}
 use native.Mathlib.Omega.{arith}
 use lib.Seq.{length-take-le}
 use Rattle.work_area.proofs.Area.{lent-cleared}
-use Rattle.one_round.proofs.RoundHeld.{few-positions}
+use Rattle.one_round.proofs.RoundHeld.{few_positions}
 use borrow.Author.Rules.{rules}
 use Rattle.belief.proofs.decode_uncleared.Statement.{statement}
 use Rattle.belief.proofs.decode_uncleared.Tie as tie
@@ -22,12 +22,12 @@ slice-aggregate-choose c =
 array-borrow-prefix-hard : tie.Need-array-borrow-prefix-hard
 array-borrow-prefix-hard c =
     let s = c.before.before.before.before.before in
-    omega (arith, s.requires.1.0, few-positions s.args.code)
+    omega (arith, s.requires.1.0, few_positions s.args.code)
 
 slice-aggregate-choose-2 : tie.Need-slice-aggregate-choose-2
 slice-aggregate-choose-2 c =
     let s = c.before.before.before.before.before.before in
-    sym (length-take-le _ _ (omega (arith, s.requires.1.0, few-positions s.args.code)))
+    sym (length-take-le _ _ (omega (arith, s.requires.1.0, few_positions s.args.code)))
 
 choose-requires : tie.Need-choose-requires
 choose-requires c κs =
@@ -39,7 +39,7 @@ choose-requires c κs =
         p.1.0,
         (
           length-take-le _ _ (omega (arith, m.message-room.ensures.1, p.1.1.1)) ∙ m.message-room.ensures.0,
-          (length-take-le _ _ (omega (arith, p.1.0, few-positions s.args.code)) ∙ p.1.0, p.1.1.0),
+          (length-take-le _ _ (omega (arith, p.1.0, few_positions s.args.code)) ∙ p.1.0, p.1.1.0),
         ),
       ),
     )

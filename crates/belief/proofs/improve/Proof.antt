@@ -1,7 +1,7 @@
 -- `belief::improve` meets its contract: no round where the initial word satisfies every check, else the rounds from the first messages. Assumes nothing.
 use mathlib.Core.Path.{ap, ◌∙◌}
 use lib.ListN.{length}
-use Rattle.one_round.proofs.BitWords.{initial-length}
+use Rattle.one_round.proofs.BitWords.{initial_length}
 use Rattle.one_round.proofs.RoundHeld.{first-held}
 use Rattle.belief.proofs.Whole.{run_none, run-some}
 use borrow.Author.Rules.{rules}
@@ -31,7 +31,7 @@ rounds-requires c κs =
         p.1.0,
         (
           first.first-messages.auto.1.1.0 ∙ p.1.1.0,
-          (ap length p.1.1.1.0 ∙ initial-length _ ∙ p.1.0, (p.1.1.1.1.0, p.1.1.1.1.1)),
+          (ap length p.1.1.1.0 ∙ initial_length _ ∙ p.1.0, (p.1.1.1.1.0, p.1.1.1.1.1)),
         ),
       ),
     )

@@ -6,13 +6,13 @@ use native.Mathlib.Omega.{arith}
 use lib.ListN.{length, drop, drop_of_length-le}
 use borrow.Author.Rules.{rules}
 use Rattle.softmath.proofs.LeaveOneOut.{fold_more}
-use Rattle.softmath.specs.Single.{foldFrom}
-use Rattle.by_others.specs.Others.{lesserOf}
+use Rattle.softmath.specs.Single.{fold_from}
+use Rattle.by_others.specs.Others.{lesser_of}
 use Rattle.by_others.proofs.least_from.Statement.{statement}
 use Rattle.by_others.proofs.least_from.Tie as tie
 
 abbrev invariant-loop : tie.invariant-loop
-invariant-loop start part least₀ i₀ least i = (i ≤ length part) × (foldFrom lesserOf least (drop i part) ≡ foldFrom lesserOf start part)
+invariant-loop start part least₀ i₀ least i = (i ≤ length part) × (fold_from lesser_of least (drop i part) ≡ fold_from lesser_of start part)
 
 abbrev decreases-loop : tie.decreases-loop
 decreases-loop start part least₀ i₀ least i = length part - i
@@ -41,12 +41,12 @@ loop-less c = search rules
 loop-again : tie.Need-loop-preserved invariant-loop decreases-loop
 loop-again c = (
   omega arith,
-  rw (c.lesser.ensures, c.before.magnitude.ensures) (fold_more lesserOf _ _ _ _
+  rw (c.lesser.ensures, c.before.magnitude.ensures) (fold_more lesser_of _ _ _ _
       c.before.before.before.loop-test.true c.before.before.before.before.loop.invariant.1),
 )
 
 returns : tie.Need-returns invariant-loop decreases-loop
-unfolding foldFrom
+unfolding fold_from
 returns c = simp (drop_of_length-le, c.loop-test.false) at c.before.loop.invariant.1
 
 pub least-from-spec : {M : Type 1} → statement M

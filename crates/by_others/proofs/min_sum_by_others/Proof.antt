@@ -6,10 +6,10 @@ use Prim.Native.Nat.{◌-◌, ◌≤◌}
 use native.Mathlib.Omega.{arith}
 use lib.ListN.{length, take, drop, length-set}
 use lib.Seq.{length-take-le}
-use Rattle.softmath.specs.CheckNode.{overOthers}
-use Rattle.by_others.specs.Others.{othersAnswer, othersSum}
-use Rattle.lists.proofs.Parts.{rest-whole}
-use Rattle.by_others.proofs.ByOthers.{others-more, others-done}
+use Rattle.softmath.specs.CheckNode.{over_others}
+use Rattle.by_others.specs.Others.{others_answer, others_sum}
+use Rattle.lists.proofs.Parts.{rest_whole}
+use Rattle.by_others.proofs.ByOthers.{others_more, others-done}
 use borrow.Author.Rules.{rules}
 use Rattle.by_others.proofs.min_sum_by_others.Statement.{statement}
 use Rattle.by_others.proofs.min_sum_by_others.Tie as tie
@@ -17,13 +17,13 @@ use Rattle.by_others.proofs.min_sum_by_others.Tie as tie
 abbrev invariant-loop : tie.invariant-loop
 invariant-loop scale messages answers₀ i₀ answers i =
     (i ≤ length messages) × (length answers ≡ length messages)
-    × (take i answers ++ overOthers (othersAnswer scale) (take i messages) (drop i messages) ≡ othersSum scale messages)
+    × (take i answers ++ over_others (others_answer scale) (take i messages) (drop i messages) ≡ others_sum scale messages)
 
 abbrev decreases-loop : tie.decreases-loop
 decreases-loop scale messages answers₀ i₀ answers i = length messages - i
 
 loop-holds : tie.Need-loop-init invariant-loop decreases-loop
-unfolding othersSum
+unfolding others_sum
 loop-holds c = (omega arith, search rules, refl)
 
 slice-aggregate-others-answer : tie.Need-slice-aggregate-others-answer invariant-loop decreases-loop
@@ -62,10 +62,10 @@ loop-less c = search rules
 loop-again : tie.Need-loop-preserved invariant-loop decreases-loop
 loop-again c =
     let turn = c.before.before.before in
-    let found = rw (rest-whole) at c.others-answer.ensures in (
+    let found = rw (rest_whole) at c.others-answer.ensures in (
       omega arith,
       simp length-set (omega arith),
-      rw (found) (others-more _ _ _ _ _ turn.loop-test.true turn.before.loop.invariant.1 turn.before.loop.invariant.2),
+      rw (found) (others_more _ _ _ _ _ turn.loop-test.true turn.before.loop.invariant.1 turn.before.loop.invariant.2),
     )
 
 same_length : tie.Need-same-length invariant-loop decreases-loop

@@ -3,7 +3,7 @@ use mathlib.Core.Path.{refl}
 use mathlib.Core.Bool.{false}
 use lib.Ieee.{inf, div, of_bits}
 use Rattle.softmath.specs.Single.{one32}
-use Rattle.by_others.specs.Others.{lesserOf, turnedBy}
+use Rattle.by_others.specs.Others.{lesser_of, turned_by}
 use Rattle.softmath.proofs.LeaveOneOut.{fold-append}
 use borrow.Author.Rules.{rules}
 use Rattle.by_others.proofs.others_answer.Statement.{statement}
@@ -26,7 +26,7 @@ unfolding div of_bits
 returns c =
     let signs = c.before.before in
     rw (c.least-from2.ensures, c.before.least-from.ensures, signs.sign-from2.ensures, signs.before.sign-from.ensures)
-    (rw (fold-append lesserOf (inf false) _ _, fold-append turnedBy one32 _ _) refl)
+    (rw (fold-append lesser_of (inf false) _ _, fold-append turned_by one32 _ _) refl)
 
 pub others-answer-spec : {M : Type 1} → statement M
 others-answer-spec =

@@ -6,13 +6,13 @@ use native.Mathlib.Omega.{arith}
 use lib.ListN.{length, drop, drop_of_length-le}
 use borrow.Author.Rules.{rules}
 use Rattle.softmath.proofs.LeaveOneOut.{fold_more}
-use Rattle.softmath.specs.Single.{foldFrom}
-use Rattle.by_others.specs.Others.{turnedBy}
+use Rattle.softmath.specs.Single.{fold_from}
+use Rattle.by_others.specs.Others.{turned_by}
 use Rattle.by_others.proofs.sign_from.Statement.{statement}
 use Rattle.by_others.proofs.sign_from.Tie as tie
 
 abbrev invariant-loop : tie.invariant-loop
-invariant-loop start part sign₀ i₀ sign i = (i ≤ length part) × (foldFrom turnedBy sign (drop i part) ≡ foldFrom turnedBy start part)
+invariant-loop start part sign₀ i₀ sign i = (i ≤ length part) × (fold_from turned_by sign (drop i part) ≡ fold_from turned_by start part)
 
 abbrev decreases-loop : tie.decreases-loop
 decreases-loop start part sign₀ i₀ sign i = length part - i
@@ -39,11 +39,11 @@ loop-again : tie.Need-loop-preserved invariant-loop decreases-loop
 loop-again c = (
   omega arith,
   rw c.turn-sign.ensures
-      (fold_more turnedBy _ _ _ _ c.before.before.loop-test.true c.before.before.before.loop.invariant.1),
+      (fold_more turned_by _ _ _ _ c.before.before.loop-test.true c.before.before.before.loop.invariant.1),
 )
 
 returns : tie.Need-returns invariant-loop decreases-loop
-unfolding foldFrom
+unfolding fold_from
 returns c = simp (drop_of_length-le, c.loop-test.false) at c.before.loop.invariant.1
 
 pub sign-from-spec : {M : Type 1} → statement M

@@ -1,6 +1,6 @@
 -- `check_node::check_step` meets its contract: the pads are set, and in each arm the step is the rule's. Assumes nothing.
 use mathlib.Core.Path.{refl, ◌∙◌}
-use Rattle.check_node.proofs.Steps.{sum-product-multiplies, ft8-multiplies, min-sum-rule, scaled-rule, padded-step, padded-long}
+use Rattle.check_node.proofs.Steps.{sum-product_multiplies, ft8_multiplies, min-sum_rule, scaled_rule, padded_step, padded_long}
 use borrow.Author.Rules.{rules}
 use Rattle.check_node.proofs.check_step.Statement.{statement}
 use Rattle.check_node.proofs.check_step.Tie as tie
@@ -19,7 +19,7 @@ product-step-requires c κs =
     let told = c.before in
     let set = told.before.before.before.before in
     let start = set.before.before.before.before.before in
-    (sum-product-multiplies _ told.enum_told.given.1, padded-long _ _ _ _ set.scatter.ensures ∙ start.requires.0)
+    (sum-product_multiplies _ told.enum_told.given.1, padded_long _ _ _ _ set.scatter.ensures ∙ start.requires.0)
 
 enum-told-2 : tie.Need-enum-told-2
 enum-told-2 c = search rules
@@ -41,7 +41,7 @@ product-step-requires-2 c κs =
     let told = c.before in
     let set = told.before.before.before.before in
     let start = set.before.before.before.before.before in
-    (ft8-multiplies _ told.enum-told4.given.1, padded-long _ _ _ _ set.scatter.ensures ∙ start.requires.0)
+    (ft8_multiplies _ told.enum-told4.given.1, padded_long _ _ _ _ set.scatter.ensures ∙ start.requires.0)
 
 same_length : tie.Need-same-length
 same_length c = search rules
@@ -53,7 +53,7 @@ returns c =
     let set = told.before.before.before.before in
     let pad = set.before.before in
     let start = pad.before.before.before in
-    padded-step start.args.rule _ _ _ _ _ _ _ _ (λ ms. refl) pad.pad-of.ensures set.scatter.ensures call.product-step.ensures
+    padded_step start.args.rule _ _ _ _ _ _ _ _ (λ ms. refl) pad.pad-of.ensures set.scatter.ensures call.product-step.ensures
 
 same-length-2 : tie.Need-same-length-2
 same-length-2 c = search rules
@@ -65,7 +65,7 @@ returns-2 c =
     let set = told.before.before.before.before in
     let pad = set.before.before in
     let start = pad.before.before.before in
-    padded-step start.args.rule _ _ _ _ _ _ _ _ (min-sum-rule _ told.enum-told2.given.1) pad.pad-of.ensures set.scatter.ensures
+    padded_step start.args.rule _ _ _ _ _ _ _ _ (min-sum_rule _ told.enum-told2.given.1) pad.pad-of.ensures set.scatter.ensures
     call.min-sum-step.ensures
 
 same-length-3 : tie.Need-same-length-3
@@ -78,7 +78,7 @@ returns-3 c =
     let set = told.before.before.before.before in
     let pad = set.before.before in
     let start = pad.before.before.before in
-    padded-step start.args.rule _ _ _ _ _ _ _ _ (scaled-rule _ _ told.enum-told3.given.1) pad.pad-of.ensures set.scatter.ensures
+    padded_step start.args.rule _ _ _ _ _ _ _ _ (scaled_rule _ _ told.enum-told3.given.1) pad.pad-of.ensures set.scatter.ensures
     call.min-sum-step2.ensures
 
 same-length-4 : tie.Need-same-length-4
@@ -91,7 +91,7 @@ returns-4 c =
     let set = told.before.before.before.before in
     let pad = set.before.before in
     let start = pad.before.before.before in
-    padded-step start.args.rule _ _ _ _ _ _ _ _ (λ ms. refl) pad.pad-of.ensures set.scatter.ensures call.product-step2.ensures
+    padded_step start.args.rule _ _ _ _ _ _ _ _ (λ ms. refl) pad.pad-of.ensures set.scatter.ensures call.product-step2.ensures
 
 pub check-step-spec : {M : Type 1} → statement M
 check-step-spec =

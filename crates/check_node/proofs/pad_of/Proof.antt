@@ -1,7 +1,7 @@
 -- `check_node::pad_of` meets its contract: in each arm the rule is the one matched, and the quotient is computed. Assumes nothing.
 use lib.Ieee.{div, neg, of_bits}
 use borrow.Author.Rules.{rules}
-use Rattle.check_node.specs.CheckStep.{padOf}
+use Rattle.check_node.specs.CheckStep.{pad_of}
 use Rattle.check_node.proofs.pad_of.Statement.{statement}
 use Rattle.check_node.proofs.pad_of.Tie as tie
 
@@ -18,19 +18,19 @@ enum-told-4 : tie.Need-enum-told-4
 enum-told-4 c = search rules
 
 returns : tie.Need-returns
-unfolding padOf div neg of_bits
+unfolding pad_of div neg of_bits
 returns c = rw c.enum_told.given.1
 
 returns-2 : tie.Need-returns-2
-unfolding padOf div neg of_bits
+unfolding pad_of div neg of_bits
 returns-2 c = rw c.enum-told2.given.1
 
 returns-3 : tie.Need-returns-3
-unfolding padOf div neg of_bits
+unfolding pad_of div neg of_bits
 returns-3 c = rw c.enum-told3.given.1
 
 returns-4 : tie.Need-returns-4
-unfolding padOf div neg of_bits
+unfolding pad_of div neg of_bits
 returns-4 c = rw c.enum-told4.given.1
 
 pub pad-of-spec : {M : Type 1} → statement M

@@ -1,5 +1,5 @@
 -- `check_node::product_step` meets its contract: the three passes one after the other, down each column. Assumes nothing.
-use Rattle.check_node.proofs.Steps.{three-passes}
+use Rattle.check_node.proofs.Steps.{three_passes}
 use borrow.Author.Rules.{rules}
 use Rattle.check_node.proofs.product_step.Statement.{statement}
 use Rattle.check_node.proofs.product_step.Tie as tie
@@ -22,7 +22,7 @@ returns c =
     let second = last.before.before.before.before in
     let first = second.before.before.before.before in
     let start = first.before.before.before in
-    three-passes start.args.rule start.args.m start.args.d _ _ _ _ start.requires.0 start.requires.1
+    three_passes start.args.rule start.args.m start.args.d _ _ _ _ start.requires.0 start.requires.1
     first.before-checks.ensures second.products-slots.ensures last.after-checks.ensures
 
 pub product-step-spec : {M : Type 1} → statement M

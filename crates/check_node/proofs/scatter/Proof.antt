@@ -5,7 +5,7 @@ use native.Mathlib.Omega.{arith}
 use lib.ListN.{length, drop, length-set}
 use Rattle.lists.specs.Below.{Below}
 use Rattle.slots.specs.Layout.{scattered}
-use Rattle.check_node.proofs.PadsSet.{scatter-more, scatter-done}
+use Rattle.check_node.proofs.PadsSet.{scatter_more, scatter_done}
 use borrow.Author.Rules.{rules}
 use Rattle.check_node.proofs.scatter.Statement.{statement}
 use Rattle.check_node.proofs.scatter.Tie as tie
@@ -44,13 +44,13 @@ loop-less : tie.Need-loop-smaller invariant-loop decreases-loop
 loop-less c = search rules
 
 loop-again : tie.Need-loop-preserved invariant-loop decreases-loop
-loop-again c = (search rules, simp length-set (omega arith), scatter-more _ _ _ _ _ c.before.loop-test.true c.before.before.loop.invariant.2)
+loop-again c = (search rules, simp length-set (omega arith), scatter_more _ _ _ _ _ c.before.loop-test.true c.before.before.loop.invariant.2)
 
 same_length : tie.Need-same-length invariant-loop decreases-loop
 same_length c = search rules
 
 returns : tie.Need-returns invariant-loop decreases-loop
-returns c = scatter-done _ _ _ _ _ c.loop-test.false c.before.loop.invariant.2
+returns c = scatter_done _ _ _ _ _ c.loop-test.false c.before.loop.invariant.2
 
 pub scatter-spec : {M : Type 1} → statement M
 scatter-spec =

@@ -3,8 +3,8 @@ use mathlib.Core.Path.{ap, ◌∙◌}
 use Prim.Native.Nat.{ℕ, ◌/◌, ◌%◌, ◌^◌}
 use native.Mathlib.Omega.{arith}
 use lib.ListN.{get_or}
-use Rattle.checksum.specs.Upper.{turnsUp, takenIn}
-use Rattle.checksum.proofs.Upper.{lowered-whole, lowered-rest}
+use Rattle.checksum.specs.Upper.{turns_up, taken_in}
+use Rattle.checksum.proofs.Upper.{lowered_whole, lowered_rest}
 use borrow.Author.Rules.{rules}
 use Rattle.checksum.proofs.checksum_of.Statement.{statement}
 use Rattle.checksum.proofs.checksum_of.Tie as tie
@@ -18,7 +18,7 @@ lowered-requires c κs = search rules
 returns : tie.Need-returns
 returns c =
     let d = c.before.before in
-    c.lowered.ensures ∙ ap (λ (r : ℕ). r / 2 ^ 18) d.whole-bytes.ensures ∙ lowered-whole _ _ c.before.if1.true
+    c.lowered.ensures ∙ ap (λ (r : ℕ). r / 2 ^ 18) d.whole-bytes.ensures ∙ lowered_whole _ _ c.before.if1.true
 
 shared-slice-read-byte : tie.Need-shared-slice-read-byte
 shared-slice-read-byte c = search rules
@@ -37,8 +37,8 @@ returns-2 c =
     let n = a.num-bits in
     c.lowered2.ensures
     ∙ ap (λ (r : ℕ). r / 2 ^ 18) c.before.last-bits.ensures
-    ∙ ap (λ (r : ℕ). turnsUp (n % 8) (takenIn r (get_or a.message.now (n / 8) 0)) / 2 ^ 18) d.whole-bytes.ensures
-    ∙ lowered-rest a.message.now n e.if1.false (omega (arith, d.before.shared-slice-known.given (n / 8)))
+    ∙ ap (λ (r : ℕ). turns_up (n % 8) (taken_in r (get_or a.message.now (n / 8) 0)) / 2 ^ 18) d.whole-bytes.ensures
+    ∙ lowered_rest a.message.now n e.if1.false (omega (arith, d.before.shared-slice-known.given (n / 8)))
 
 pub checksum-of-spec : {M : Type 1} → statement M
 checksum-of-spec =

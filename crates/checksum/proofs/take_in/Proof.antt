@@ -3,12 +3,12 @@ use mathlib.Core.Path.{ap}
 use native.Mathlib.Nat.{mod-eq_of_lt}
 use native.Mathlib.Omega.{arith}
 use lib.Bits.{bit_xor}
-use Rattle.checksum.specs.Upper.{takenIn}
+use Rattle.checksum.specs.Upper.{taken_in}
 use Rattle.checksum.proofs.take_in.Statement.{statement}
 use Rattle.checksum.proofs.take_in.Tie as tie
 
 returns : tie.Need-returns
-unfolding takenIn
+unfolding taken_in
 returns c = ap (bit_xor c.args.r) (mod-eq_of_lt (omega (arith, c.ranges.byte)))
 
 pub take-in-spec : {M : Type 1} → statement M

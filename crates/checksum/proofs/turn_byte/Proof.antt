@@ -1,5 +1,5 @@
 -- `checksum::turn_byte` meets its contract: eight turns, two at a time. Assumes nothing.
-use Rattle.checksum.specs.Upper.{turnsUp}
+use Rattle.checksum.specs.Upper.{turns_up}
 use borrow.Author.Rules.{rules}
 use Rattle.checksum.proofs.turn_byte.Statement.{statement}
 use Rattle.checksum.proofs.turn_byte.Tie as tie
@@ -17,7 +17,7 @@ step-two-requires-4 : tie.Need-step-two-requires-4
 step-two-requires-4 c κs = search rules
 
 returns : tie.Need-returns
-unfolding turnsUp
+unfolding turns_up
 returns c = cc
 
 pub turn-byte-spec : {M : Type 1} → statement M

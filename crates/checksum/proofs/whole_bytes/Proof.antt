@@ -5,8 +5,8 @@ use native.Mathlib.Omega.{arith}
 use lib.ListN.{get_or}
 use borrow.Author.Rules.{rules}
 use Rattle.checksum.specs.Register.{register}
-use Rattle.checksum.specs.Upper.{upper, turnsUp, takenIn}
-use Rattle.checksum.proofs.Upper.{up-byte}
+use Rattle.checksum.specs.Upper.{upper, turns_up, taken_in}
+use Rattle.checksum.proofs.Upper.{up_byte}
 use Rattle.checksum.proofs.whole_bytes.Statement.{statement}
 use Rattle.checksum.proofs.whole_bytes.Tie as tie
 
@@ -43,8 +43,8 @@ loop-again c =
     let next : 8 * k + 8 ≡ 8 * (k + 1) = omega arith in (
       search rules,
       c.turn_byte.ensures
-          ∙ ap (turnsUp 8) (c.before.take_in.ensures ∙ ap (λ (r : ℕ). takenIn r (get_or m k 0)) l.loop.invariant.1)
-          ∙ up-byte m k (omega (arith, l.before.shared-slice-known.given k)) 7 (omega arith)
+          ∙ ap (turns_up 8) (c.before.take_in.ensures ∙ ap (λ (r : ℕ). taken_in r (get_or m k 0)) l.loop.invariant.1)
+          ∙ up_byte m k (omega (arith, l.before.shared-slice-known.given k)) 7 (omega arith)
           ∙ ap (λ (n : ℕ). upper (register m n)) next,
     )
 

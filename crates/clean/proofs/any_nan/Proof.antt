@@ -4,13 +4,13 @@ use Prim.Native.Nat.{◌-◌, ◌≤◌}
 use native.Mathlib.Omega.{arith}
 use lib.ListN.{length, drop}
 use borrow.Author.Rules.{rules}
-use Rattle.clean.specs.Clean.{anyNan}
+use Rattle.clean.specs.Clean.{any_nan}
 use Rattle.clean.proofs.Steps.{nan-here, nan-later, none_left}
 use Rattle.clean.proofs.any_nan.Statement.{statement}
 use Rattle.clean.proofs.any_nan.Tie as tie
 
 abbrev invariant-loop : tie.invariant-loop
-invariant-loop values i₀ i = (i ≤ length values) × (anyNan (drop i values) ≡ anyNan values)
+invariant-loop values i₀ i = (i ≤ length values) × (any_nan (drop i values) ≡ any_nan values)
 
 abbrev decreases-loop : tie.decreases-loop
 decreases-loop values i₀ i = length values - i

@@ -4,7 +4,7 @@ use native.Mathlib.Nat.{mod-lt}
 use native.Mathlib.Omega.{arith}
 use lib.ListN.{get_or-eq_default}
 use borrow.Author.Rules.{rules}
-use Rattle.tanner.proofs.Count.{low-at, low-length}
+use Rattle.tanner.proofs.Count.{low_at, low-length}
 use Rattle.tanner.specs.Checks.{low_bits}
 use Rattle.clean.proofs.bit_at.Statement.{statement}
 use Rattle.clean.proofs.bit_at.Tie as tie
@@ -16,7 +16,7 @@ cast-result : tie.Need-overflow-cast-result
 cast-result c = search rules
 
 returns : tie.Need-returns
-returns c = (sym (low-at _ _), mod-lt _ (omega arith))
+returns c = (sym (low_at _ _), mod-lt _ (omega arith))
 
 returns-2 : tie.Need-returns-2
 returns-2 c =

@@ -4,9 +4,9 @@ use Prim.Native.Nat.{ℕ, ◌+◌, ◌-◌, ◌*◌, ◌^◌, ◌≤◌, ◌<◌
 use native.Mathlib.Omega.{arith}
 use lib.ListN.{length, take}
 use borrow.Author.Rules.{rules}
-use Rattle.bits.specs.Bits.{number, numberAfter}
+use Rattle.bits.specs.Bits.{number, number_after}
 use Rattle.tanner.specs.Checks.{low_bits}
-use Rattle.clean.proofs.Steps.{number_more, all_digits, below-pow, room}
+use Rattle.clean.proofs.Steps.{number_more, all_digits, below_pow, room}
 use Rattle.clean.proofs.number_of.Statement.{statement}
 use Rattle.clean.proofs.number_of.Tie as tie
 
@@ -17,7 +17,7 @@ abbrev decreases-loop : tie.decreases-loop
 decreases-loop bytes n₀ i₀ n i = length bytes - i
 
 loop-holds : tie.Need-loop-init invariant-loop decreases-loop
-unfolding numberAfter
+unfolding number_after
 loop-holds c = (omega arith, (omega arith, refl))
 
 mul-n : tie.Need-overflow-mul-n invariant-loop decreases-loop
@@ -49,7 +49,7 @@ loop-again c =
     let b = c.bit_at in (
       omega (arith, c.before.loop-test.true),
       (
-        below-pow loop.loop.n b.result loop.loop.i inv.1.0 b.ensures.1,
+        below_pow loop.loop.n b.result loop.loop.i inv.1.0 b.ensures.1,
         ap (λ (n : ℕ). n * 2 + b.result) inv.1.1
             ∙ number_more bytes loop.loop.i b.result c.before.loop-test.true b.ensures.0,
       ),

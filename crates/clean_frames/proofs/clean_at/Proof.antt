@@ -6,12 +6,12 @@ use Prim.Native.Nat.{ℕ, suc, ◌+◌, ◌*◌, ◌≤◌, ◌<◌}
 use native.Mathlib.Omega.{arith}
 use lib.Ieee.{Float}
 use lib.ListN.{length, get_or}
-use Rattle.batch.specs.Codes.{sizeN, sizeK}
-use Rattle.batch.specs.Pairs.{pairsOf}
-use Rattle.batch.proofs.Sizes.{bits-ft8, size_small}
-use Rattle.lists.proofs.Parts.{part-size}
+use Rattle.batch.specs.Codes.{size_n, size_k}
+use Rattle.batch.specs.Pairs.{pairs_of}
+use Rattle.batch.proofs.Sizes.{bits_ft8, size_small}
+use Rattle.lists.proofs.Parts.{part_size}
 use Rattle.batch.proofs.Frames.{place-fits, pair_inside, frame-inside}
-use Rattle.clean.specs.Clean.{frameClean}
+use Rattle.clean.specs.Clean.{frame_clean}
 use Rattle.clean_frames.proofs.FrameAt.{frame_at, bits_at}
 use borrow.Author.Rules.{rules}
 use Rattle.clean_frames.proofs.clean_at.Statement.{statement}
@@ -20,10 +20,10 @@ use Rattle.clean_frames.proofs.clean_at.Tie as tie
 -- what is inside the slices: pair j, the frame that it names, the frame's bits
 record Inside (c : tie.Start) : Type 0 where
   pair : suc (c.args.j * 2) < length c.args.pairs.now
-  frame : get_or c.args.pairs.now (c.args.j * 2) 0 + sizeN c.args.code ≤ length c.args.values.now
-  front : c.args.j * sizeK c.args.code + sizeK c.args.code ≤ length c.args.bits.now
-  span : sizeN c.args.code ≤ 576
-  size : sizeK c.args.code ≤ 384
+  frame : get_or c.args.pairs.now (c.args.j * 2) 0 + size_n c.args.code ≤ length c.args.values.now
+  front : c.args.j * size_k c.args.code + size_k c.args.code ≤ length c.args.bits.now
+  span : size_n c.args.code ≤ 576
+  size : size_k c.args.code ≤ 384
   few : c.args.j < 24
 
 inside : (c : tie.Start) → Inside c
@@ -34,7 +34,7 @@ inside c =
     record {
       pair = pair_inside a.values.now a.pairs.now _ a.j p.0 p.1.1.1;
       frame = frame-inside a.values.now a.pairs.now _ a.j p.0 p.1.1.1;
-      front = omega (arith, p.1.1.0.1, place-fits a.j (length (pairsOf a.pairs.now)) (sizeK a.code) p.1.1.1);
+      front = omega (arith, p.1.1.0.1, place-fits a.j (length (pairs_of a.pairs.now)) (size_k a.code) p.1.1.1);
       span = small.values;
       size = small.bits;
       few = omega (arith, p.1.0, p.1.1.1);
@@ -49,7 +49,7 @@ abbrev sized : tie.After-message-bits → tie.Start
 sized c = entry c.before.before
 
 -- the bits' places, as computed
-front-is : (c : tie.After-message-bits) → let a = (sized c).args in a.j * c.message-bits.result ≡ a.j * sizeK a.code
+front-is : (c : tie.After-message-bits) → let a = (sized c).args in a.j * c.message-bits.result ≡ a.j * size_k a.code
 front-is c = ap (λ (k : ℕ). (sized c).args.j * k) c.message-bits.ensures
 
 -- ---- the needs
@@ -117,17 +117,17 @@ is-clean-requires c κs =
     let m = c.before.before.before in
     let s = sized m in
     let k = m.message-bits.ensures in
-    λ e. part-size s.args.bits.now _ _ (omega (arith, front-is m, (inside s).front, k)) ∙ k ∙ sym (bits-ft8 s.args.code (omega (arith, e)))
+    λ e. part_size s.args.bits.now _ _ (omega (arith, front-is m, (inside s).front, k)) ∙ k ∙ sym (bits_ft8 s.args.code (omega (arith, e)))
 
 returns : tie.Need-returns
 returns c =
     let m = c.before.before.before.before in
     let s = sized m in
     let a = s.args in
-    let here = frame_at a.values.now a.pairs.now (sizeN a.code) a.j s.pre.0 s.pre.1.1.1 in
+    let here = frame_at a.values.now a.pairs.now (size_n a.code) a.j s.pre.0 s.pre.1.1.1 in
     let values = sym (rw (← m.before.frame-values.ensures) at here) in
     let bits = bits_at a.bits.now a.j _ _ m.message-bits.ensures in
-    c.is-clean.ensures ∙ ap₂ (λ (v : List Float) (b : List ℕ). frameClean a.code v (get_or a.counts.now a.j 0) b) values bits
+    c.is-clean.ensures ∙ ap₂ (λ (v : List Float) (b : List ℕ). frame_clean a.code v (get_or a.counts.now a.j 0) b) values bits
 
 pub clean-at-spec : {M : Type 1} → statement M
 clean-at-spec =

@@ -1,6 +1,6 @@
 -- `coded_figures::summed_code` meets its contract, case by case. Assumes nothing.
 use mathlib.Core.Path.{refl, ◌∙◌}
-use Rattle.coded.proofs.Signed.{read_back}
+use Rattle.coded.proofs.Signed.{read_back_lem}
 use borrow.Author.Rules.{rules}
 use Rattle.coded_figures.proofs.summed_code.Statement.{statement}
 use Rattle.coded_figures.proofs.summed_code.Tie as tie
@@ -20,7 +20,7 @@ returns c = rw c.before.answer.given.1 (record { says = refl; leaves = refl })
 returns-2 : tie.Need-returns-2
 returns-2 c =
     rw c.before.before.answer2.given.1
-    (record { says = read_back (record { sfits = c.refusal-code.type-inv }) ∙ c.refusal-code.ensures; leaves = refl })
+    (record { says = read_back_lem (record { sfits = c.refusal-code.type-inv }) ∙ c.refusal-code.ensures; leaves = refl })
 
 pub summed-code-spec : {M : Type 1} → statement M
 summed-code-spec =

@@ -1,6 +1,6 @@
 -- `coded_parts::counting_code` meets its contract, case by case. Assumes nothing.
 use mathlib.Core.Path.{◌∙◌, refl}
-use Rattle.coded.proofs.Signed.{read_back}
+use Rattle.coded.proofs.Signed.{read_back_lem}
 use borrow.Author.Rules.{rules}
 use Rattle.coded_parts.proofs.counting_code.Statement.{statement}
 use Rattle.coded_parts.proofs.counting_code.Tie as tie
@@ -23,12 +23,12 @@ refusal-code-requires c κs = search rules
 returns : tie.Need-returns
 returns c =
     let counted = c.before.before.before.answer.given in
-    rw counted.1 (record { itsCount = read_back (record { sfits = c.value-code.type-inv }) ∙ c.value-code.ensures; itsFirst = c.before.place_of.ensures })
+    rw counted.1 (record { its_count = read_back_lem (record { sfits = c.value-code.type-inv }) ∙ c.value-code.ensures; its_first = c.before.place_of.ensures })
 
 returns-2 : tie.Need-returns-2
 returns-2 c =
     rw c.before.before.answer2.given.1
-    (record { itsCount = read_back (record { sfits = c.refusal-code.type-inv }) ∙ c.refusal-code.ensures; itsFirst = refl })
+    (record { its_count = read_back_lem (record { sfits = c.refusal-code.type-inv }) ∙ c.refusal-code.ensures; its_first = refl })
 
 pub counting-code-spec : {M : Type 1} → statement M
 counting-code-spec =

@@ -1,6 +1,6 @@
 -- `coded_parts::decoding_code` meets its contract, case by case. Assumes nothing.
 use mathlib.Core.Path.{◌∙◌, refl}
-use Rattle.coded.proofs.Signed.{read_back}
+use Rattle.coded.proofs.Signed.{read_back_lem}
 use borrow.Author.Rules.{rules}
 use Rattle.coded_parts.proofs.decoding_code.Statement.{statement}
 use Rattle.coded_parts.proofs.decoding_code.Tie as tie
@@ -24,12 +24,12 @@ returns : tie.Need-returns
 returns c =
     let told = c.before.before.before.answer.given in
     rw told.1
-    (record { itsCount = read_back (record { sfits = c.value-code.type-inv }) ∙ c.value-code.ensures; itsRounds = refl; itsFirst = c.before.place_of.ensures })
+    (record { its_count = read_back_lem (record { sfits = c.value-code.type-inv }) ∙ c.value-code.ensures; its_rounds = refl; its_first = c.before.place_of.ensures })
 
 returns-2 : tie.Need-returns-2
 returns-2 c =
     rw c.before.before.answer2.given.1
-    (record { itsCount = read_back (record { sfits = c.refusal-code.type-inv }) ∙ c.refusal-code.ensures; itsRounds = refl; itsFirst = refl })
+    (record { its_count = read_back_lem (record { sfits = c.refusal-code.type-inv }) ∙ c.refusal-code.ensures; its_rounds = refl; its_first = refl })
 
 pub decoding-code-spec : {M : Type 1} → statement M
 decoding-code-spec =

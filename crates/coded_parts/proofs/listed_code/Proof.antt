@@ -1,7 +1,7 @@
 -- `coded_parts::listed_code` meets its contract, case by case. Assumes nothing.
 use mathlib.Core.Path.{◌∙◌, refl}
 use Prim.Native.Nat.{◌<◌, ◌^◌}
-use Rattle.coded.proofs.Signed.{long-pos, read_back}
+use Rattle.coded.proofs.Signed.{long_pos, read_back_lem}
 use borrow.Author.Rules.{rules}
 use Rattle.coded_parts.proofs.listed_code.Statement.{statement}
 use Rattle.coded_parts.proofs.listed_code.Tie as tie
@@ -23,12 +23,12 @@ refusal-code-requires : tie.Need-refusal-code-requires
 refusal-code-requires c κs = search rules
 
 returns : tie.Need-returns
-returns c = rw c.before.answer.given.1 (record { itsCycles = long-pos c.before.answer.given.0.0 (small c); itsRelaxed = refl })
+returns c = rw c.before.answer.given.1 (record { its_cycles = long_pos c.before.answer.given.0.0 (small c); its_relaxed = refl })
 
 returns-2 : tie.Need-returns-2
 returns-2 c =
     rw c.before.before.answer2.given.1
-    (record { itsCycles = read_back (record { sfits = c.refusal-code.type-inv }) ∙ c.refusal-code.ensures; itsRelaxed = refl })
+    (record { its_cycles = read_back_lem (record { sfits = c.refusal-code.type-inv }) ∙ c.refusal-code.ensures; its_relaxed = refl })
 
 pub listed-code-spec : {M : Type 1} → statement M
 listed-code-spec =

@@ -1,7 +1,7 @@
 -- `coded_parts::reason_code` meets its contract, case by case. Assumes nothing.
 use mathlib.Core.Path.{refl, ap, ◌∙◌}
 use lib.IntN.{pos}
-use Rattle.coded.proofs.Signed.{read_back}
+use Rattle.coded.proofs.Signed.{read_back_lem}
 use borrow.Author.Rules.{rules}
 use Rattle.coded_parts.proofs.reason_code.Statement.{statement}
 use Rattle.coded_parts.proofs.reason_code.Tie as tie
@@ -31,13 +31,13 @@ returns : tie.Need-returns
 returns c =
     let kind = c.before in
     let told = kind.before.before.before.before.answer.given in
-    let coded = read_back (record { sfits = c.value-code.type-inv }) ∙ c.value-code.ensures ∙ ap pos kind.kind-of.ensures in
-    rw told.1 (record { itsKind = coded; itsPart = kind.before.before.part_of.ensures; itsComputed = kind.before.computed-of.ensures })
+    let coded = read_back_lem (record { sfits = c.value-code.type-inv }) ∙ c.value-code.ensures ∙ ap pos kind.kind-of.ensures in
+    rw told.1 (record { its_kind = coded; its_part = kind.before.before.part_of.ensures; its_computed = kind.before.computed-of.ensures })
 
 returns-2 : tie.Need-returns-2
 returns-2 c =
     rw c.before.before.answer2.given.1
-    (record { itsKind = read_back (record { sfits = c.refusal-code.type-inv }) ∙ c.refusal-code.ensures; itsPart = refl; itsComputed = refl })
+    (record { its_kind = read_back_lem (record { sfits = c.refusal-code.type-inv }) ∙ c.refusal-code.ensures; its_part = refl; its_computed = refl })
 
 pub reason-code-spec : {M : Type 1} → statement M
 reason-code-spec =

@@ -3,15 +3,15 @@ use mathlib.Core.Path.{◌≡◌, refl, ◌∙◌}
 use Prim.Native.Nat.{◌-◌, ◌*◌, ◌+◌, ◌≤◌}
 use native.Mathlib.Omega.{arith}
 use lib.ListN.{length, length-set}
-use Rattle.columns.specs.Tables.{columnsIn}
+use Rattle.columns.specs.Tables.{columns_in}
 use Rattle.lists.proofs.Below.{below-within}
-use Rattle.columns.proofs.Marks.{Joined, joined-none, joined-more, joined-all}
+use Rattle.columns.proofs.Marks.{Joined, joined-none, joined_more, joined-all}
 use borrow.Author.Rules.{rules}
 use Rattle.columns.proofs.mark_together.Statement.{statement}
 use Rattle.columns.proofs.mark_together.Tie as tie
 
 abbrev invariant-loop : tie.invariant-loop
-invariant-loop marks₀ rows n q j₀ marks j = (j ≤ n) × ((length marks ≡ length marks₀) × Joined (columnsIn rows j) q marks₀ marks)
+invariant-loop marks₀ rows n q j₀ marks j = (j ≤ n) × ((length marks ≡ length marks₀) × Joined (columns_in rows j) q marks₀ marks)
 
 abbrev decreases-loop : tie.decreases-loop
 decreases-loop marks₀ rows n q j₀ marks j = n - j
@@ -56,7 +56,7 @@ loop-less c = search rules
 loop-again : tie.Need-loop-preserved invariant-loop decreases-loop
 loop-again c =
     let inv = c.before.before.before.before.before.before.loop.invariant in
-    (search rules, (search rules, joined-more _ _ _ _ _ _ inv.1.0 inv.1.1 c.before.before.mark-column.ensures))
+    (search rules, (search rules, joined_more _ _ _ _ _ _ inv.1.0 inv.1.1 c.before.before.mark-column.ensures))
 
 same_length : tie.Need-same-length invariant-loop decreases-loop
 same_length c = c.before.loop.invariant.1.0 ∙ simp length-set

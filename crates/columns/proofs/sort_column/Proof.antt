@@ -1,5 +1,5 @@
 -- `columns::sort_column` meets its contract: three stores to a list of three. Assumes nothing.
-use Rattle.columns.proofs.Columns.{three-stored}
+use Rattle.columns.proofs.Columns.{three_stored}
 use borrow.Author.Rules.{rules}
 use Rattle.columns.proofs.sort_column.Statement.{statement}
 use Rattle.columns.proofs.sort_column.Tie as tie
@@ -29,7 +29,7 @@ same_length : tie.Need-same-length
 same_length c = search rules
 
 returns : tie.Need-returns
-returns c = three-stored _ _ _ _ c.before.before.before.before.before.requires c.in_order.ensures
+returns c = three_stored _ _ _ _ c.before.before.before.before.before.requires c.in_order.ensures
 
 pub sort-column-spec : {M : Type 1} → statement M
 sort-column-spec =

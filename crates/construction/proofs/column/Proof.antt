@@ -35,11 +35,11 @@ use Rattle.walks.proofs.Calls.{Callee}
 use Rattle.xorshift.proofs.Generator.{holding}
 use Rattle.walks.proofs.Frame.{Spot, Cell, frame, begins, var, loc, con, args, points, sets, stores, passes_on, returns-all}
 use Rattle.walks.proofs.Lend.{Handle, handle, pointer, counted, Ref, Slice}
-use Rattle.walks.proofs.Loans.{Loan, lend, lend-slice, share-slice, give, lent-args, takes, calls-lent, own-args, gathers, scatters}
+use Rattle.walks.proofs.Loans.{Loan, lend, lend-slice, share-slice, give, lent_args, takes, calls_lent, own_args, gathers, scatters}
 use Rattle.walks.proofs.Walk.{Walk, walking, meets-by}
-use Rattle.columns.specs.Tables.{columnAt}
+use Rattle.columns.specs.Tables.{column_at}
 use Rattle.placing.specs.Tables.{Begun, Placed, Finished}
-use Rattle.construction.proofs.Picks.{picked-three}
+use Rattle.construction.proofs.Picks.{picked_three}
 use Rattle.construction.proofs.Made.{column-made}
 use Rattle.construction.specs.contracts.one_pick as pick
 use Rattle.construction.proofs.one_pick.Symbol as pick-def
@@ -85,8 +85,8 @@ module _ {M : Type 1} {𝓤 : Ura M} (𝓛 : Logic 𝓤) (mem : Memory → SProp
         → (s' ≡ draw s) × Placed (length ls) n t s' xs ls x xs' fs' → Seq K 𝓛 (‵ (frame E cs) ∷ Held s' xs' fs' Γ) (lands 𝓣.C 𝓣.Λ E d v rest q))
         → Seq K 𝓛 (‵ (frame E cs) ∷ Held s xs fs Γ) (runs 𝓣.C 𝓣.Λ E (seq (call #construction·one-pick os d) rest) q)
     picks s t xs fs ok z os k =
-        calls-lent 𝓛 (fm_of 𝓤 H 𝓛.laws 𝓣) pick.ended (pick.clauses 𝓛 mem run) known-pick (to-pick s t ok.0 xs fs)
-        (takes (λ ν. bound (lent-args (to-pick s t ok.0 xs fs) ν)) (λ ν. tt) (λ ν. hands 𝓛 (lent-args (to-pick s t ok.0 xs fs) ν)) (λ ν ws. ws)
+        calls_lent 𝓛 (fm_of 𝓤 H 𝓛.laws 𝓣) pick.ended (pick.clauses 𝓛 mem run) known-pick (to-pick s t ok.0 xs fs)
+        (takes (λ ν. bound (lent_args (to-pick s t ok.0 xs fs) ν)) (λ ν. tt) (λ ν. hands 𝓛 (lent_args (to-pick s t ok.0 xs fs) ν)) (λ ν ws. ws)
         (λ ν. refl) (λ ν ws. refl))
         (λ ν. fact_i 𝓤 _ (emp 𝓤) ok) (λ ν x ws. (ws.0.state ≡ draw s) × Placed (length ls) n t ws.0.state xs ls x ws.1.0 ws.1.1.1.1.1.0)
         (λ ν x ws. id⊢ 𝓤 _)
@@ -100,7 +100,7 @@ module _ {M : Type 1} {𝓤 : Ura M} (𝓛 : Logic 𝓤) (mem : Memory → SProp
         ∷ lend-slice u8 marks (length fs) fs-fit fs ∷ []
 
     abbrev us : List Arg
-    us = own-args mine
+    us = own_args mine
 
     abbrev to-finish : List ℕ → List ℕ → List Loan
     to-finish xs' fs' = lend-slice u16 rows (length xs) xs-fit xs' ∷ give n n-fits ∷ lend-slice u16 loads (length ls) ls-fit ls
@@ -130,10 +130,10 @@ module _ {M : Type 1} {𝓤 : Ura M} (𝓛 : Logic 𝓤) (mem : Memory → SProp
         stores ! (ap only is₃.0) tt (tt, record { fits = is₃.1 }) $
         -- the column is finished: the generator stands behind, and the three others are lent
         passes_on ! refl tt tt xs-fit $ passes_on ! refl tt tt ls-fit $ passes_on ! refl tt tt fs-fit $ move ! (0 ∷ 2 ∷ 3 ∷ 4 ∷ []) $
-        calls-lent 𝓛 (fm_of 𝓤 H 𝓛.laws 𝓣) finish.ended (finish.clauses 𝓛 mem run) known-finish (to-finish xs₃ fs₃)
-        (takes (λ ν. bound (lent-args (to-finish xs₃ fs₃) ν)) (λ ν. tt) (λ ν. hands 𝓛 (lent-args (to-finish xs₃ fs₃) ν)) (λ ν ws. ws) (λ ν. refl)
+        calls_lent 𝓛 (fm_of 𝓤 H 𝓛.laws 𝓣) finish.ended (finish.clauses 𝓛 mem run) known-finish (to-finish xs₃ fs₃)
+        (takes (λ ν. bound (lent_args (to-finish xs₃ fs₃) ν)) (λ ν. tt) (λ ν. hands 𝓛 (lent_args (to-finish xs₃ fs₃) ν)) (λ ν ws. ws) (λ ν. refl)
         (λ ν ws. refl))
-        (λ ν. fact_i 𝓤 _ (emp 𝓤) p₃.1.begun) (λ ν _ ws. Finished (length ls) n (columnAt xs₃ n) xs₃ ws.0 ws.1.1.0 ws.1.1.1.0)
+        (λ ν. fact_i 𝓤 _ (emp 𝓤) p₃.1.begun) (λ ν _ ws. Finished (length ls) n (column_at xs₃ n) xs₃ ws.0 ws.1.1.0 ws.1.1.1.0)
         (λ ν _ ws. id⊢ 𝓤 _)
         ! (λ ν. args ! (loc 32 ∷ loc 3 ∷ loc 34 ∷ loc 36 ∷ []) refl) (λ ν v _ ws f same. stores ! (ap only f.0) tt (tt, tt) $
         -- held: the locals, the table, the loads, the flags and the generator. The sum
@@ -146,7 +146,7 @@ module _ {M : Type 1} {𝓤 : Ura M} (𝓛 : Logic 𝓤) (mem : Memory → SProp
         (haves 𝓛 params (bound us).0 (bound us).3 (holding s₃, (ws.0, (tt, (ws.1.1.0, (ws.1.1.1.0, tt))))) (bound us).4)
         (uint_Makes 𝓛 w64 (x₁ + x₂ + x₃) _ (refl, three-fit p₁.1.at_most p₂.1.at_most p₃.1.at_most))
         (tt, (same.0 ∙ same₃.0 ∙ same₂.0 ∙ same₁.0, (tt, (same.1.0, (same.1.1.0 ∙ same₃.1 ∙ same₂.1 ∙ same₁.1, tt)))))
-        (fact_i 𝓤 _ (emp 𝓤) (column-made (picked-three ok p₁ p₂ p₃) f.1)))))))))
+        (fact_i 𝓤 _ (emp 𝓤) (column-made (picked_three ok p₁ p₂ p₃) f.1)))))))))
 
   meets : Meets 𝓛 this.signature (WpFn 𝓤 H 𝓣.C 𝓣.Λ code.function) (this.spec 𝓛 mem run)
   meets = meets-by 𝓛 this.ended (stays params) (this.clauses 𝓛 mem run) 𝓣 code.function (all-spell params) (all_tell params) (all_go 𝓛 params)

@@ -1,6 +1,6 @@
 -- `construction::construct` meets its contract: with no loads and no flags the columns can be made. Assumes nothing.
 use lib.ListN.{length-replicate}
-use Rattle.construction.proofs.Made.{cleared-blank}
+use Rattle.construction.proofs.Made.{cleared_blank}
 use borrow.Author.Rules.{rules}
 use Rattle.construction.proofs.construct.Statement.{statement}
 use Rattle.construction.proofs.construct.Tie as tie
@@ -22,7 +22,7 @@ construct-seeded-requires : tie.Need-construct-seeded-requires
 construct-seeded-requires c κs =
     let d = c.before.before.before.before.before in
     let pre = (start d).requires in
-    cleared-blank _ _ _ _ _ _ pre.0 pre.1.0 pre.1.1 (unloaded d).clear-loads.ensures d.clear-marks.ensures
+    cleared_blank _ _ _ _ _ _ pre.0 pre.1.0 pre.1.1 (unloaded d).clear-loads.ensures d.clear-marks.ensures
 
 same_length : tie.Need-same-length
 same_length c = search rules

@@ -35,13 +35,13 @@ use Rattle.walks.proofs.Args.{Param, kept-ref, kept-slice, plain-number, stays, 
 use Rattle.walks.proofs.Calls.{Callee}
 use Rattle.xorshift.proofs.Generator.{holding}
 use Rattle.walks.proofs.Frame.{empty, full, frame, Blocks, spots, begins, var, loc, args, points}
-use Rattle.walks.proofs.Frame.{sets, sets-as, sets_last, stores, passes_on, forgets-from, returns-all}
+use Rattle.walks.proofs.Frame.{sets, sets-as, sets_last, stores, passes_on, forgets_from, returns-all}
 use Rattle.walks.proofs.Lend.{Handle, handle, pointer, counted, Ref, Slice}
-use Rattle.walks.proofs.Loans.{Loan, lend, lend-slice, give, lent-args, takes, calls-lent, own-args, gathers, scatters}
+use Rattle.walks.proofs.Loans.{Loan, lend, lend-slice, give, lent_args, takes, calls_lent, own_args, gathers, scatters}
 use Rattle.walks.proofs.Walk.{Post, Walk, walking, meets-by}
 use Rattle.placing.specs.Tables.{Begun}
 use Rattle.construction.specs.Tables.{ColumnMade, Blank, Constructed}
-use Rattle.construction.proofs.Made.{Built, built-none, built-begun, built-more, built-all}
+use Rattle.construction.proofs.Made.{Built, built_none, built_begun, built_more, built_all}
 use Rattle.construction.specs.contracts.column as column
 use Rattle.construction.proofs.column.Symbol as column-def
 use Rattle.construction.proofs.column.Symbol.{name as #construction·column}
@@ -75,8 +75,8 @@ module _ {k m seed : ℕ} where
     -- while a column is left
     module _ (p : i.n < k) where
       ready : Begun (length i.loads) i.n 0 i.rows i.loads i.marks
-      ready = subst (λ (z : ℕ). Begun z i.n 0 i.rows i.loads i.marks) (sym i.built.ready.rowsAre)
-          (built-begun i.built (omega (arith, p, i.size)) (omega (arith, p, small)))
+      ready = subst (λ (z : ℕ). Begun z i.n 0 i.rows i.loads i.marks) (sym i.built.ready.rows_are)
+          (built_begun i.built (omega (arith, p, i.size)) (omega (arith, p, small)))
 
       module _ {state relaxed : ℕ} {rows loads marks : List ℕ} (made : ColumnMade (length i.loads) i.n i.state
           i.rows state relaxed rows loads marks) where
@@ -91,8 +91,8 @@ module _ {k m seed : ℕ} where
           rows = rows;
           loads = loads;
           marks = marks;
-          built = built-more i.built (subst (λ (z : ℕ). ColumnMade z i.n i.state i.rows state relaxed rows loads marks)
-              i.built.ready.rowsAre made);
+          built = built_more i.built (subst (λ (z : ℕ). ColumnMade z i.n i.state i.rows state relaxed rows loads marks)
+              i.built.ready.rows_are made);
           upto = omega (arith, p);
           size = same ∙ i.size;
         }
@@ -102,12 +102,12 @@ module _ {k m seed : ℕ} where
 
   -- there are as many flags as at first
   flags-same : {xs ls fs : List ℕ} → Blank m k xs ls fs → (i : Turn k m seed) → length i.marks ≡ length fs
-  flags-same blank i = i.built.ready.flagsAre ∙ sym (ap length blank.clear ∙ length-replicate m 0)
+  flags-same blank i = i.built.ready.flags_are ∙ sym (ap length blank.clear ∙ length-replicate m 0)
 
   constructed : (i : Turn k m seed) → (i.n < k → ⊥) → Constructed k m seed i.rows i.state i.relaxed
   constructed i p =
       let all : i.n ≡ k = omega (arith, p, i.upto) in
-      built-all i.size (subst (λ (z : ℕ). Built m z seed i.rows i.loads i.marks i.state i.relaxed) all i.built)
+      built_all i.size (subst (λ (z : ℕ). Built m z seed i.rows i.loads i.marks i.state i.relaxed) all i.built)
 
 -- ---- the walk
 module _ {M : Type 1} {𝓤 : Ura M} (𝓛 : Logic 𝓤) (mem : Memory → SProp 𝓤) (run : Routine → Fun 𝓤) (𝓣 : Tables 𝓤 𝓛.H)
@@ -122,7 +122,7 @@ module _ {M : Type 1} {𝓤 : Ura M} (𝓛 : Logic 𝓤) (mem : Memory → SProp
         ∷ lend-slice u8 marks (length fs) fs-fit fs ∷ give k k-fits ∷ []
 
     abbrev us : List Arg
-    us = own-args mine
+    us = own_args mine
 
     abbrev to-column : (i : Turn k (length ls) s) → i.n < k → List Loan
     to-column i p = lend T.the_row generator (holding i.state) ∷ lend-slice u16 rows (length xs) xs-fit i.rows ∷ give i.n (omega (arith, p, k-fits))
@@ -137,7 +137,7 @@ module _ {M : Type 1} {𝓤 : Ura M} (𝓛 : Logic 𝓤) (mem : Memory → SProp
         ∷ ‵ (Slice u8 marks (length fs) i.marks) ∷ []
 
     abbrev begun : Turn k (length ls) s
-    begun = record { n = 0; state = s; relaxed = 0; rows = xs; loads = ls; marks = fs; built = built-none s ok; upto = omega arith; size = ok.room }
+    begun = record { n = 0; state = s; relaxed = 0; rows = xs; loads = ls; marks = fs; built = built_none s ok; upto = omega arith; size = ok.room }
 
     walk : Walk 𝓛 this.ended (stays params) (this.clauses 𝓛 mem run) 𝓣 code.function (bound us) tt
     unfolding after_turn
@@ -148,8 +148,8 @@ module _ {M : Type 1} {𝓤 : Ura M} (𝓛 : Logic 𝓤) (mem : Memory → SProp
               sets-as ! (bin ! (var ! refl) (var ! refl) tt) (ap vbool (lt-ltb i.n k p)) tt (tt, tt) $ goes_on ! (var ! refl) $
               -- the four references are lent to `column`
               sets ! (addr ! (points ! refl)) tt (tt, tt) $ passes_on ! refl tt tt xs-fit $ passes_on ! refl tt tt ls-fit $ passes_on ! refl tt tt fs-fit $
-              calls-lent 𝓛 (fm_of 𝓤 H 𝓛.laws 𝓣) column.ended (column.clauses 𝓛 mem run) known (to-column i p)
-              (takes (λ ν. bound (lent-args (to-column i p) ν)) (λ ν. tt) (λ ν. hands 𝓛 (lent-args (to-column i p) ν)) (λ ν ws. ws) (λ ν. refl)
+              calls_lent 𝓛 (fm_of 𝓤 H 𝓛.laws 𝓣) column.ended (column.clauses 𝓛 mem run) known (to-column i p)
+              (takes (λ ν. bound (lent_args (to-column i p) ν)) (λ ν. tt) (λ ν. hands 𝓛 (lent_args (to-column i p) ν)) (λ ν ws. ws) (λ ν. refl)
               (λ ν ws. refl))
               (λ ν. fact_i 𝓤 _ (emp 𝓤) (ready ok.few i p))
               (λ ν r ws. ColumnMade (length i.loads) i.n i.state i.rows ws.0.state r ws.1.0 ws.1.1.1.0 ws.1.1.1.1.0)
@@ -161,7 +161,7 @@ module _ {M : Type 1} {𝓤 : Ura M} (𝓛 : Logic 𝓤) (mem : Memory → SProp
               (tt, record { fits = sum_fits ok.few i p e.1 }) $
               sets_last ! (bin ! (var ! refl) (lit ! tt) (record { fits = omega (arith, p, k-fits) })) refl tt
               (tt, record { fits = omega (arith, p, k-fits) }) $
-              forgets-from ! 8 $ again ! (λ i j. left i < left j) (At bs) i (one_more ok.few i p e.1 same.1.0) (omega (arith, p)))
+              forgets_from ! 8 $ again ! (λ i j. left i < left j) (At bs) i (one_more ok.few i p e.1 same.1.0) (omega (arith, p)))
           | no p ↦
               sets-as ! (bin ! (var ! refl) (var ! refl) tt) (ap vbool (le-ltb i.n k (omega (arith, p)))) tt (tt, tt) $ leaves_loop ! (var ! refl) $
               exec ! 𝓣.C 𝓣.Λ (spots (code.function).locals bs) code.Mir.t-4
@@ -171,7 +171,7 @@ module _ {M : Type 1} {𝓤 : Ura M} (𝓛 : Logic 𝓤) (mem : Memory → SProp
               by ! (end (vint w64 i.relaxed) i.relaxed (holding i.state, (i.rows, (i.loads, (i.marks, (tt, tt)))))
               (haves 𝓛 params (bound us).0 (bound us).3 (holding i.state, (i.rows, (i.loads, (i.marks, (tt, tt))))) (bound us).4)
               (uint_Makes 𝓛 w64 i.relaxed _ (refl, relaxed-fits ok.few i))
-              (tt, (i.size ∙ sym ok.room, (i.built.ready.rowsAre, (flags-same ok i, (tt, tt))))) (fact_i 𝓤 _ (emp 𝓤) (constructed i p)))
+              (tt, (i.size ∙ sym ok.room, (i.built.ready.rows_are, (flags-same ok i, (tt, tt))))) (fact_i 𝓤 _ (emp 𝓤) (constructed i p)))
         ]) begun))
 
   meets : Meets 𝓛 this.signature (WpFn 𝓤 H 𝓣.C 𝓣.Λ code.function) (this.spec 𝓛 mem run)

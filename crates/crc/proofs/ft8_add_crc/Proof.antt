@@ -42,14 +42,14 @@ same_length c = search rules
 
 returns-3 : tie.Need-returns-3
 returns-3 c =
-    let laidAt = c.before.before.before.before.before.before.before.before in
-    let tests = laidAt.before.before in
+    let laid_at = c.before.before.before.before.before.before.before.before in
+    let tests = laid_at.before.before in
     let start = tests.before.before.before.before in
     let ten = tests.before.if1.false in
     let twelve = tests.if2.false in
     let payload = start.args.payload.now in
     let bytes : Bytes payload = λ i. omega (arith, tests.before.before.before.shared-slice-known.given i) in
-    let lay = laidAt.lay-payload.ensures in
+    let lay = laid_at.lay-payload.ensures in
     let sum = c.before.before.before.before.checksum-of.ensures ∙ ap (λ (l : List ℕ). crc14 l 82) lay ∙ laid-checksum payload ten bytes in (
       simp (eq-eqb _ _ ten, eq-eqb _ _ twelve),
       simp (eq-eqb _ _ ten, eq-eqb _ _ twelve)

@@ -3,7 +3,7 @@ use mathlib.Core.Path.{ap}
 use lib.Bits.{and_le_r}
 use lib.ListN.{get_or}
 use Rattle.refusal.specs.Outcome.{accepted}
-use Rattle.crc.proofs.Places.{carried-read}
+use Rattle.crc.proofs.Places.{carried_read}
 use borrow.Author.Tests.{eq-eqb, ne_eqb}
 use native.Mathlib.Omega.{arith}
 use borrow.Author.Rules.{rules}
@@ -34,7 +34,7 @@ cast-low c = omega (arith, c.shared-slice-known3.given 11)
 returns-2 : tie.Need-returns-2
 returns-2 c =
     simp (eq-eqb _ _ c.before.before.before.if1.false)
-    (ap accepted (carried-read _ c.before.before.before.if1.false (λ i. omega (arith, c.shared-slice-known3.given i))))
+    (ap accepted (carried_read _ c.before.before.before.if1.false (λ i. omega (arith, c.shared-slice-known3.given i))))
 
 pub ft8-extract-crc-spec : {M : Type 1} → statement M
 ft8-extract-crc-spec =

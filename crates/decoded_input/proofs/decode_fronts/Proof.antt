@@ -6,20 +6,20 @@ use native.Mathlib.Omega.{arith}
 use lib.Ieee.{Float}
 use lib.ListN.{length, take, drop, replicate, length-replicate}
 use Rattle.refusal.specs.Outcome.{Outcome}
-use Rattle.refusal.specs.Answers.{statusOf}
-use Rattle.refusal.proofs.Judged.{verdict, nothing, judged-accepted, judged-refused}
+use Rattle.refusal.specs.Answers.{status_of}
+use Rattle.refusal.proofs.Judged.{verdict, nothing, judged_accepted, judged_refused}
 use Rattle.softmath.specs.Single.{zero32}
-use Rattle.batch.specs.Codes.{sizeK}
-use Rattle.batch.specs.Pairs.{pairsOf}
-use Rattle.batch.specs.Calls.{Lent, lent, Batch, batch, roomOf, refusals, Answered}
+use Rattle.batch.specs.Codes.{size_k}
+use Rattle.batch.specs.Pairs.{pairs_of}
+use Rattle.batch.specs.Calls.{Lent, lent, Batch, batch, room_of, refusals, Answered}
 use Rattle.batch.proofs.Sizes.{product_small}
-use Rattle.batch_input.specs.Input.{code_of, ruleOf, limitOf, scale_of, pairCount, pairNumbers}
-use Rattle.batch_input.specs.Handed.{batchIn, memoryFor}
+use Rattle.batch_input.specs.Input.{code_of, rule_of, limit_of, scale_of, pair_count, pair_numbers}
+use Rattle.batch_input.specs.Handed.{batch_in, memory_for}
 use Rattle.batch_input.proofs.Room.{part_length, back}
 use Rattle.batch_input.proofs.Wellformed.{Wellformed, wellformed}
-use Rattle.batch_input.proofs.Handed.{accepted-few}
-use Rattle.decoded_input.specs.Fronts.{held, sizesOf, Fronts}
-use Rattle.decoded_input.proofs.Handed.{held-few, held_all, room-right, handed, handed-verdict, Outputs, handed-outputs, sizes-given}
+use Rattle.batch_input.proofs.Handed.{accepted_few}
+use Rattle.decoded_input.specs.Fronts.{held, sizes_of, Fronts}
+use Rattle.decoded_input.proofs.Handed.{held_few, held_all, room-right, handed, handed-verdict, Outputs, handed-outputs, sizes_given}
 use borrow.Author.Rules.{rules}
 use Rattle.decoded_input.proofs.decode_fronts.Statement.{statement}
 use Rattle.decoded_input.proofs.decode_fronts.Tie as tie
@@ -42,13 +42,13 @@ N m = m.before.before.frames-held.result
 abbrev size : tie.After-message-bits → ℕ
 size m = N m * m.message-bits.result
 
-frames-are : (m : tie.After-message-bits) → N m ≡ held (pairCount (input m))
+frames-are : (m : tie.After-message-bits) → N m ≡ held (pair_count (input m))
 frames-are m = m.before.before.frames-held.ensures ∙ ap held m.before.before.before.pair-count.ensures.0
 
 few : (m : tie.After-message-bits) → N m ≤ 24
-few m = rw (frames-are m) (held-few (pairCount (input m)))
+few m = rw (frames-are m) (held_few (pair_count (input m)))
 
-size_is : (m : tie.After-message-bits) → size m ≡ N m * sizeK (code_of (input m))
+size_is : (m : tie.After-message-bits) → size m ≡ N m * size_k (code_of (input m))
 size_is m = ap (λ (k : ℕ). N m * k) m.message-bits.ensures
 
 size_fits : (m : tie.After-message-bits) → size m ≤ 9216
@@ -95,7 +95,7 @@ memory d =
     let n = N (M d) in
     lent (take (size (M d)) a.bits.now) (take n a.counts.now) (take n a.rounds.now) (take n a.firsts.now) (replicate 3070 zero32)
 
-exact : (d : tie.After-decode-input) → roomOf (memory d) ≡ roomOf (memoryFor (code_of (input (M d))) (held (pairCount (input (M d)))))
+exact : (d : tie.After-decode-input) → room_of (memory d) ≡ room_of (memory_for (code_of (input (M d))) (held (pair_count (input (M d)))))
 exact d =
     let m = M d in
     let a = (entry m).args in
@@ -104,22 +104,22 @@ exact d =
     (sym (part_length a.counts.now _ (counts-room m)))
     (sym (part_length a.rounds.now _ (rounds-room m))) (sym (part_length a.firsts.now _ (firsts-room m))) (length-replicate 3070 zero32)
     in
-    right ∙ ap (λ (k : ℕ). roomOf (memoryFor (code_of (input m)) k)) (frames-are m)
+    right ∙ ap (λ (k : ℕ). room_of (memory_for (code_of (input m)) k)) (frames-are m)
 
 abbrev batch-of : tie.After-decode-input → Batch
 batch-of d = handed (input (M d)) (memory d) (exact d)
 
-answered : (d : tie.After-decode-input) → Answered (batch-of d) (statusOf d.decode-input.result) (left d)
+answered : (d : tie.After-decode-input) → Answered (batch-of d) (status_of d.decode-input.result) (left d)
 answered d =
     let s = input (M d) in
     let p = (entry (M d)).requires.1.0 in
-    let over = batch (code_of s) (ruleOf s) (limitOf s) (scale_of s) in
-    subst (λ (v : List Float). Answered (over v (pairsOf (take 50 (pairNumbers s))) (memory d)) (statusOf d.decode-input.result) (left d)) p.0
-    (subst (λ (ns : List ℕ). Answered (over (entry (M d)).args.values.now (pairsOf ns) (memory d)) (statusOf d.decode-input.result) (left d)) p.1
+    let over = batch (code_of s) (rule_of s) (limit_of s) (scale_of s) in
+    subst (λ (v : List Float). Answered (over v (pairs_of (take 50 (pair_numbers s))) (memory d)) (status_of d.decode-input.result) (left d)) p.0
+    (subst (λ (ns : List ℕ). Answered (over (entry (M d)).args.values.now (pairs_of ns) (memory d)) (status_of d.decode-input.result) (left d)) p.1
     d.decode-input.ensures)
 
 -- what the whole input's batch comes to
-found : (d : tie.After-decode-input) → verdict (refusals (batchIn (input (M d)))) ≡ statusOf d.decode-input.result
+found : (d : tie.After-decode-input) → verdict (refusals (batch_in (input (M d)))) ≡ status_of d.decode-input.result
 found d = sym (handed-verdict (input (M d)) (memory d) (exact d)) ∙ sym (answered d).says
 
 -- the parts are back
@@ -128,18 +128,18 @@ decoded w = w.before.before.before.before.before.before.before.before.before
 
 -- ---- an accepted call
 
-module _ (d : tie.After-decode-input) (ok : statusOf d.decode-input.result ≡ nothing) where
+module _ (d : tie.After-decode-input) (ok : status_of d.decode-input.result ≡ nothing) where
   outputs : Outputs (input (M d)) (memory d) (exact d) (left d)
   outputs = handed-outputs (input (M d)) (memory d) (exact d) (left d) (subst (λ (o : Outcome Unit). Answered (batch-of d) o (left d)) ok (answered d))
 
   -- all frames are held
-  all_held : N (M d) ≡ pairCount (input (M d))
+  all_held : N (M d) ≡ pair_count (input (M d))
   all_held =
       let s = input (M d) in
-      frames-are (M d) ∙ held_all (pairCount s) (accepted-few s (found d ∙ ok))
+      frames-are (M d) ∙ held_all (pair_count s) (accepted_few s (found d ∙ ok))
 
-  whole : size (M d) ≡ pairCount (input (M d)) * sizeK (code_of (input (M d)))
-  whole = size_is (M d) ∙ ap (λ (n : ℕ). n * sizeK (code_of (input (M d)))) all_held
+  whole : size (M d) ≡ pair_count (input (M d)) * size_k (code_of (input (M d)))
+  whole = size_is (M d) ∙ ap (λ (n : ℕ). n * size_k (code_of (input (M d)))) all_held
 
   fronts : let a = (entry (M d)).args in let n = N (M d) in
       Fronts (input (M d)) (bits' d ++ drop (size (M d)) a.bits.now) (counts' d ++ drop n a.counts.now) (rounds' d ++ drop n a.rounds.now)
@@ -149,16 +149,16 @@ module _ (d : tie.After-decode-input) (ok : statusOf d.decode-input.result ≡ n
       let a = (entry m).args in
       let kept = d.decode-input.kept.1.1.1 in
       record {
-        itsBits =
+        its_bits =
             ap (λ (n : ℕ). take n (bits' d ++ drop (size m) a.bits.now)) (sym whole) ∙ back a.bits.now _ (bits-room m) (bits' d) kept.0
             ∙ outputs.bits;
-        itsCounts =
+        its_counts =
             ap (λ (n : ℕ). take n (counts' d ++ drop (N m) a.counts.now)) (sym all_held)
             ∙ back a.counts.now _ (counts-room m) (counts' d) kept.1.0 ∙ outputs.counts;
-        itsRounds =
+        its_rounds =
             ap (λ (n : ℕ). take n (rounds' d ++ drop (N m) a.rounds.now)) (sym all_held)
             ∙ back a.rounds.now _ (rounds-room m) (rounds' d) kept.1.1.0 ∙ outputs.rounds;
-        itsFirsts =
+        its_firsts =
             ap (λ (n : ℕ). take n (firsts' d ++ drop (N m) a.firsts.now)) (sym all_held)
             ∙ back a.firsts.now _ (firsts-room m) (firsts' d) kept.1.1.1.0 ∙ outputs.firsts;
       }
@@ -233,8 +233,8 @@ returns c =
     let r = c.before in
     let d = decoded r.before.before in
     let s = input (M d) in
-    let turned = found d ∙ ap statusOf r.r.given.1 in
-    (sym (judged-refused (refusals (batchIn s)) (sizesOf s) _ turned), λ e. let z : ◌≡◌ {A = ℕ} 0 1 = cc in absurd (omega arith))
+    let turned = found d ∙ ap status_of r.r.given.1 in
+    (sym (judged_refused (refusals (batch_in s)) (sizes_of s) _ turned), λ e. let z : ◌≡◌ {A = ℕ} 0 1 = cc in absurd (omega arith))
 
 enum_told : tie.Need-enum-told
 enum_told c = search rules
@@ -255,8 +255,8 @@ returns-2 : tie.Need-returns-2
 returns-2 c =
     let d = decoded c.before.before in
     let s = input (M d) in
-    let ok = ap statusOf c.enum_told.given.1 in
-    (sizes-given (all_held d ok) (whole d ok) ∙ sym (judged-accepted (refusals (batchIn s)) (sizesOf s) (found d ∙ ok)), λ e. fronts d ok)
+    let ok = ap status_of c.enum_told.given.1 in
+    (sizes_given (all_held d ok) (whole d ok) ∙ sym (judged_accepted (refusals (batch_in s)) (sizes_of s) (found d ∙ ok)), λ e. fronts d ok)
 
 pub decode-fronts-spec : {M : Type 1} → statement M
 decode-fronts-spec =

@@ -4,11 +4,11 @@ use Prim.Native.Nat.{ℕ, ◌<◌}
 use borrow.Author.Tests.{lt-ltb, le-ltb, eq-eqb, ne_eqb}
 use native.Mathlib.Omega.{arith}
 use lib.ListN.{length}
-use Rattle.construction.specs.Codes.{blockLength}
+use Rattle.construction.specs.Codes.{block_length}
 use Rattle.staircase.specs.Codes.{code_of}
 use Rattle.refusal.specs.Outcome.{refused}
 use Rattle.refusal.proofs.Judged.{verdict}
-use Rattle.decoders.specs.Calls.{Single, frameRefusals, softWith}
+use Rattle.decoders.specs.Calls.{Single, frame_refusals, soft_with}
 use Rattle.decoders.proofs.Answers.{staircase-at, size_of, turned_down, decoded, soft-right}
 use borrow.Author.Rules.{rules}
 use Rattle.decoders.proofs.decode_soft_with.Statement.{statement}
@@ -21,7 +21,7 @@ entry c = c.before.before.before.before
 
 -- the call as it is handed over
 abbrev call : tie.Start → Single
-call s = let a = s.args in softWith a.code a.rule a.scale a.limit a.llr.now a.bits.now a.work.now
+call s = let a = s.args in soft_with a.code a.rule a.scale a.limit a.llr.now a.bits.now a.work.now
 
 -- the numbers were taken
 abbrev start : tie.Else3 → tie.Start
@@ -34,7 +34,7 @@ code-right c = (c.before.before.if1.false, omega (arith, c.before.if2.false, c.i
 abbrev numbers : tie.Else4 → tie.Else3
 numbers c = c.before.before
 
-values-right : (c : tie.Else4) → let a = (start (numbers c)).args in length a.llr.now ≡ blockLength (code_of a.code)
+values-right : (c : tie.Else4) → let a = (start (numbers c)).args in length a.llr.now ≡ block_length (code_of a.code)
 values-right c = c.if4.false ∙ c.before.values_of.ensures
 
 abbrev values : tie.Else5 → tie.Else4
@@ -61,7 +61,7 @@ values-of-requires c κs = search rules
 
 -- the tests of the numbers, passed
 by_lengths : (c : tie.Else3) (n : ℕ)
-    → let a = (start c).args in verdict (frameRefusals (blockLength (code_of a.code)) (code_of a.code).k a.llr.now a.bits.now a.work.now)
+    → let a = (start c).args in verdict (frame_refusals (block_length (code_of a.code)) (code_of a.code).k a.llr.now a.bits.now a.work.now)
     ≡ refused n
     → verdict (call (start c)).refusals ≡ refused n
 by_lengths c n e =

@@ -1,7 +1,7 @@
 -- `decoders::ldpc_decode_soft` meets its contract: each refusal by its test, and the decode. Assumes nothing.
 use borrow.Author.Tests.{lt-ltb, eq-eqb, ne_eqb}
-use Rattle.passes.specs.Codes.{sizeN}
-use Rattle.decoders.specs.Calls.{Single, ft8Soft}
+use Rattle.passes.specs.Codes.{size_n}
+use Rattle.decoders.specs.Calls.{Single, ft8_soft}
 use Rattle.decoders.proofs.Answers.{ft8-at, turned_down, decoded, lengths-right}
 use borrow.Author.Rules.{rules}
 use Rattle.decoders.proofs.ldpc_decode_soft.Statement.{statement}
@@ -12,7 +12,7 @@ abbrev entry : tie.Else1 → tie.Start
 entry c = c.before.before.before.before
 
 abbrev call : tie.Start → Single
-call s = let a = s.args in ft8Soft a.llr.now a.limit a.plain.now a.work.now
+call s = let a = s.args in ft8_soft a.llr.now a.limit a.plain.now a.work.now
 
 returns : tie.Need-returns
 returns c = turned_down (call c.before.before.before.before) 4 (simp (ne_eqb _ _ c.if1.true))
@@ -26,7 +26,7 @@ returns-3 c =
     turned_down (call (entry first)) 9 (simp (eq-eqb _ _ first.if1.false, eq-eqb _ _ c.before.if2.false, lt-ltb _ _ c.if3.true))
 
 decode-requires : tie.Need-decode-requires
-unfolding sizeN
+unfolding size_n
 decode-requires c κs = search rules
 
 same_length : tie.Need-same-length

@@ -1,6 +1,6 @@
 -- `desklink::desklink_decode_groups_unguarded` meets its contract: the call beneath, its answer told as a number. Assumes nothing.
-use Rattle.coded.proofs.Signed.{read_back}
-use Rattle.desklink.proofs.Told.{groups-told}
+use Rattle.coded.proofs.Signed.{read_back_lem}
+use Rattle.desklink.proofs.Told.{groups_told}
 use borrow.Author.Rules.{rules}
 use Rattle.desklink.proofs.desklink_decode_groups_unguarded.Statement.{statement}
 use Rattle.desklink.proofs.desklink_decode_groups_unguarded.Tie as tie
@@ -33,7 +33,7 @@ same-length-5 : tie.Need-same-length-5
 same-length-5 c = search rules
 
 returns : tie.Need-returns
-returns c = groups-told _ _ (decoded c).decode-groups.ensures c.status-code.ensures (read_back (record { sfits = c.status-code.type-inv }))
+returns c = groups_told _ _ (decoded c).decode-groups.ensures c.status-code.ensures (read_back_lem (record { sfits = c.status-code.type-inv }))
 
 pub desklink-decode-groups-unguarded-spec : {M : Type 1} → statement M
 desklink-decode-groups-unguarded-spec =

@@ -18,12 +18,12 @@ use sound.WpLaws.{fm_of}
 use denote.Triple.Statement.{Triple}
 use denote.Triple.Spec.{Meets, triple_of}
 use denote.Triple.Table.{entered, cited}
-use Rattle.refusal.specs.Answers.{statusOf}
+use Rattle.refusal.specs.Answers.{status_of}
 use Rattle.walks.proofs.Plain.{int, datum, meant}
 use Rattle.walks.proofs.Args.{plainly, bound, typed, hands, stays, all_go, all-spell, all_tell, haves}
 use Rattle.walks.proofs.Calls.{Callee, calls}
 use Rattle.walks.proofs.Frame.{begins, loc, args, stores-plain, passes_on, returns-all}
-use Rattle.walks.proofs.Loans.{Loan, lent-args, takes, calls-lent, own-args, gathers, scatters}
+use Rattle.walks.proofs.Loans.{Loan, lent_args, takes, calls_lent, own_args, gathers, scatters}
 use Rattle.walks.proofs.Walk.{Walk, walking, meets-by}
 use Rattle.batch.specs.Calls.{Lent, Batch, Answered}
 use Rattle.record_check.specs.declared.Pair.{Pair}
@@ -55,21 +55,21 @@ module _ {M : Type 1} {𝓤 : Ura M} (𝓛 : Logic 𝓤) (mem : Memory → SProp
     abbrev own : List Loan
     own = mine n h sizes m
 
-    walk : Walk 𝓛 this.ended (stays params) (this.clauses 𝓛 mem run) 𝓣 code_of_lem.function (bound (own-args own)) tt
-    walk = walking (λ end. begins ! (typed 𝓛 (own-args own)) (λ bs. gathers ! own $
+    walk : Walk 𝓛 this.ended (stays params) (this.clauses 𝓛 mem run) 𝓣 code_of_lem.function (bound (own_args own)) tt
+    walk = walking (λ end. begins ! (typed 𝓛 (own_args own)) (λ bs. gathers ! own $
         passes_on ! refl tt tt sizes.bits $ passes_on ! refl tt tt sizes.counts $ passes_on ! refl tt tt sizes.rounds $
         passes_on ! refl tt tt sizes.firsts $ passes_on ! refl tt tt sizes.work $
-        calls-lent 𝓛 (fm_of 𝓤 H 𝓛.laws 𝓣) pairs.ended (pairs.clauses 𝓛 mem run) known-pairs own
-        (takes (λ ν. bound (lent-args own ν)) (λ ν. tt) (λ ν. hands 𝓛 (lent-args own ν)) (λ ν ws. ws) (λ ν. refl) (λ ν ws. refl))
-        (λ ν. id⊢ 𝓤 (emp 𝓤)) (λ ν s ws. Answered B (statusOf s) (left ws.1.1.1.1.1.1)) (λ ν s ws. id⊢ 𝓤 _)
+        calls_lent 𝓛 (fm_of 𝓤 H 𝓛.laws 𝓣) pairs.ended (pairs.clauses 𝓛 mem run) known-pairs own
+        (takes (λ ν. bound (lent_args own ν)) (λ ν. tt) (λ ν. hands 𝓛 (lent_args own ν)) (λ ν ws. ws) (λ ν. refl) (λ ν ws. refl))
+        (λ ν. id⊢ 𝓤 (emp 𝓤)) (λ ν s ws. Answered B (status_of s) (left ws.1.1.1.1.1.1)) (λ ν s ws. id⊢ 𝓤 _)
         ! (λ ν. args ! (loc 1 ∷ loc 2 ∷ loc 3 ∷ loc 4 ∷ loc 5 ∷ loc 6 ∷ loc 14 ∷ loc 16 ∷ loc 18 ∷ loc 20 ∷ loc 22 ∷ []) refl)
         (λ ν v s ws e same. stores-plain ! status s e.0 tt refl $
         calls 𝓛 (fm_of 𝓤 H 𝓛.laws 𝓣) told.ended (told.clauses 𝓛 mem run) known-told (bound (plainly (datum status s (meant status s v e.0)) ∷ [])) tt
         (hands 𝓛 (plainly (datum status s (meant status s v e.0)) ∷ [])) (id⊢ 𝓤 (emp 𝓤))
-        (λ z _. z ≡ coded_unit (statusOf s)) (λ z _. id⊢ 𝓤 _) ! (args ! (loc 12 ∷ []) refl) (λ u z _ f.
+        (λ z _. z ≡ coded_unit (status_of s)) (λ z _. id⊢ 𝓤 _) ! (args ! (loc 12 ∷ []) refl) (λ u z _ f.
         stores-plain ! (int w32) z f.0 tt refl $ returns-all ! refl tt $ scatters ! own (all-lasts ws.1.1.1.1.1.1) $
         by ! (end ((int w32).val z) z (all-lasts ws.1.1.1.1.1.1)
-        (haves 𝓛 params (bound (own-args own)).0 (bound (own-args own)).3 (all-lasts ws.1.1.1.1.1.1) (bound (own-args own)).4)
+        (haves 𝓛 params (bound (own_args own)).0 (bound (own_args own)).3 (all-lasts ws.1.1.1.1.1.1) (bound (own_args own)).4)
         ((int w32).makes 𝓛 z _ (meant (int w32) z u f.0)) (tt, (tt, (tt, (tt, (tt, (tt, same.1.1))))))
         (fact_i 𝓤 _ (emp 𝓤) (record { says = f.1 ∙ ap coded_unit e.1.says; leaves = e.1.leaves })))))))
 

@@ -1,6 +1,6 @@
 -- `desklink::desklink_decode_soft_unguarded` meets its contract: the call beneath, its answer told as numbers. Assumes nothing.
-use Rattle.coded.proofs.Signed.{read_back}
-use Rattle.desklink.proofs.Told.{decode-told}
+use Rattle.coded.proofs.Signed.{read_back_lem}
+use Rattle.desklink.proofs.Told.{decode_told}
 use borrow.Author.Rules.{rules}
 use Rattle.desklink.proofs.desklink_decode_soft_unguarded.Statement.{statement}
 use Rattle.desklink.proofs.desklink_decode_soft_unguarded.Tie as tie
@@ -21,7 +21,7 @@ same-length-2 : tie.Need-same-length-2
 same-length-2 c = search rules
 
 returns : tie.Need-returns
-returns c = decode-told _ (decoded c).decode-soft.ensures c.decoding-code.ensures (read_back (record { sfits = c.decoding-code.type-inv }))
+returns c = decode_told _ (decoded c).decode-soft.ensures c.decoding-code.ensures (read_back_lem (record { sfits = c.decoding-code.type-inv }))
 
 pub desklink-decode-soft-unguarded-spec : {M : Type 1} → statement M
 desklink-decode-soft-unguarded-spec =

@@ -1,5 +1,5 @@
 -- `desklink::desklink_decode_stored_batch_unguarded` meets its contract: the call beneath, its answer told as a number. Assumes nothing.
-use Rattle.coded.proofs.Signed.{read_back}
+use Rattle.coded.proofs.Signed.{read_back_lem}
 use Rattle.desklink.proofs.Told.{batch-told}
 use borrow.Author.Rules.{rules}
 use Rattle.desklink.proofs.desklink_decode_stored_batch_unguarded.Statement.{statement}
@@ -33,7 +33,7 @@ same-length-5 : tie.Need-same-length-5
 same-length-5 c = search rules
 
 returns : tie.Need-returns
-returns c = batch-told _ (decoded c).decode-stored-batch.ensures c.status-code.ensures (read_back (record { sfits = c.status-code.type-inv }))
+returns c = batch-told _ (decoded c).decode-stored-batch.ensures c.status-code.ensures (read_back_lem (record { sfits = c.status-code.type-inv }))
 
 pub desklink-decode-stored-batch-unguarded-spec : {M : Type 1} → statement M
 desklink-decode-stored-batch-unguarded-spec =

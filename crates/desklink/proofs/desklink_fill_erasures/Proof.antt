@@ -1,6 +1,6 @@
 -- `desklink::desklink_fill_erasures` meets its contract: the answer of the call beneath, as a number. Assumes nothing.
 use mathlib.Core.Path.{ap, ◌∙◌}
-use Rattle.coded.proofs.Signed.{read_back}
+use Rattle.coded.proofs.Signed.{read_back_lem}
 use Rattle.coded.specs.Coded.{coded}
 use borrow.Author.Rules.{rules}
 use Rattle.desklink.proofs.desklink_fill_erasures.Statement.{statement}
@@ -20,7 +20,7 @@ same-length-2 c = search rules
 
 returns : tie.Need-returns
 returns c = (
-  read_back (record { sfits = c.answer-code.type-inv }) ∙ c.answer-code.ensures
+  read_back_lem (record { sfits = c.answer-code.type-inv }) ∙ c.answer-code.ensures
       ∙ ap coded c.before.before.before.before.before.fill-erasures.ensures.0,
   c.before.before.before.before.before.fill-erasures.ensures.1,
 )

@@ -1,6 +1,6 @@
 -- `desklink::desklink_frame_reason_unguarded` meets its contract: the call beneath, its answer told as numbers. Assumes nothing.
-use Rattle.coded.proofs.Signed.{read_back}
-use Rattle.desklink.proofs.Told.{reason-told}
+use Rattle.coded.proofs.Signed.{read_back_lem}
+use Rattle.desklink.proofs.Told.{reason_told}
 use borrow.Author.Rules.{rules}
 use Rattle.desklink.proofs.desklink_frame_reason_unguarded.Statement.{statement}
 use Rattle.desklink.proofs.desklink_frame_reason_unguarded.Tie as tie
@@ -20,7 +20,7 @@ same-length-2 c = search rules
 returns : tie.Need-returns
 returns c =
     let found = c.before.before.before.before.before.before.before in
-    reason-told _ found.frame-reason.ensures c.reason-code.ensures (read_back (record { sfits = c.reason-code.type-inv }))
+    reason_told _ found.frame-reason.ensures c.reason-code.ensures (read_back_lem (record { sfits = c.reason-code.type-inv }))
 
 pub desklink-frame-reason-unguarded-spec : {M : Type 1} → statement M
 desklink-frame-reason-unguarded-spec =

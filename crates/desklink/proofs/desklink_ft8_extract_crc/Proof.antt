@@ -1,6 +1,6 @@
 -- `desklink::desklink_ft8_extract_crc` meets its contract: the answer of the call beneath, as a number. Assumes nothing.
 use mathlib.Core.Path.{ap, ◌∙◌}
-use Rattle.coded.proofs.Signed.{read_back}
+use Rattle.coded.proofs.Signed.{read_back_lem}
 use Rattle.coded.specs.Coded.{coded}
 use borrow.Author.Rules.{rules}
 use Rattle.desklink.proofs.desklink_ft8_extract_crc.Statement.{statement}
@@ -13,7 +13,7 @@ answer-code-requires : tie.Need-answer-code-requires
 answer-code-requires c κs = search rules
 
 returns : tie.Need-returns
-returns c = read_back (record { sfits = c.answer-code.type-inv }) ∙ c.answer-code.ensures ∙ ap coded c.before.ft8-extract-crc.ensures
+returns c = read_back_lem (record { sfits = c.answer-code.type-inv }) ∙ c.answer-code.ensures ∙ ap coded c.before.ft8-extract-crc.ensures
 
 pub desklink-ft8-extract-crc-spec : {M : Type 1} → statement M
 desklink-ft8-extract-crc-spec =

@@ -1,6 +1,6 @@
 -- `desklink::desklink_values_of_bytes_unguarded` meets its contract: the answer of the call beneath, as a number. Assumes nothing.
 use mathlib.Core.Path.{ap, ◌∙◌}
-use Rattle.coded.proofs.Signed.{read_back}
+use Rattle.coded.proofs.Signed.{read_back_lem}
 use Rattle.coded.specs.Coded.{coded_unit}
 use borrow.Author.Rules.{rules}
 use Rattle.desklink.proofs.desklink_values_of_bytes_unguarded.Statement.{statement}
@@ -17,7 +17,7 @@ same_length c = search rules
 
 returns : tie.Need-returns
 returns c = (
-  read_back (record { sfits = c.status-code.type-inv }) ∙ c.status-code.ensures
+  read_back_lem (record { sfits = c.status-code.type-inv }) ∙ c.status-code.ensures
       ∙ ap coded_unit c.before.before.before.values-of-bytes.ensures.0,
   c.before.before.before.values-of-bytes.ensures.1,
 )

@@ -8,14 +8,14 @@ use native.Mathlib.Omega.{arith}
 use lib.ListN.{length, length-append}
 use Rattle.text.specs.Text.{leading}
 use Rattle.text.proofs.Put.{Left, left-all, left_less, left-none}
-use Rattle.digits.specs.Digits.{digitsFrom, digits}
-use Rattle.digits.proofs.Digits.{weight-next, digits_more}
+use Rattle.digits.specs.Digits.{digits_from, digits}
+use Rattle.digits.proofs.Digits.{weight_next, digits_more}
 use borrow.Author.Rules.{rules}
 use Rattle.digits.proofs.put_digits.Statement.{statement}
 use Rattle.digits.proofs.put_digits.Tie as tie
 
 abbrev invariant-loop : tie.invariant-loop
-invariant-loop out₀ at n next₀ p₀ k₀ out next p k = (k ≤ 19) × (p ≡ 10 ^ k) × Left out₀ at (digits n) out next (digitsFrom k n)
+invariant-loop out₀ at n next₀ p₀ k₀ out next p k = (k ≤ 19) × (p ≡ 10 ^ k) × Left out₀ at (digits n) out next (digits_from k n)
 
 abbrev decreases-loop : tie.decreases-loop
 decreases-loop out₀ at n next₀ p₀ k₀ out next p k = k
@@ -33,7 +33,7 @@ n l = (start l).args.n
 
 -- in a turn: the digit of this weight comes first of what is left, and has room
 left_here : (i : tie.In-loop invariant-loop decreases-loop) → let l = i.before in let now = l.loop in
-    Left (start l).args.out.now (start l).args.at (digits (n l)) now.out now.next (leading now.p (n l) ++ digitsFrom (now.k - 1) (n l))
+    Left (start l).args.out.now (start l).args.at (digits (n l)) now.out now.next (leading now.p (n l) ++ digits_from (now.k - 1) (n l))
 left_here i =
     let l = i.before in
     rw (digits_more l.loop.k l.loop.p (n l) i.loop-test.true l.loop.invariant.1) at l.loop.invariant.2
@@ -42,12 +42,12 @@ room-here : (i : tie.In-loop invariant-loop decreases-loop) → let now = i.befo
 room-here i =
     let l = i.before in
     let left = left_here i in
-    omega (arith, (start l).requires, left.end, left.size, length-append (leading l.loop.p (n l)) (digitsFrom (l.loop.k - 1) (n l)))
+    omega (arith, (start l).requires, left.end, left.size, length-append (leading l.loop.p (n l)) (digits_from (l.loop.k - 1) (n l)))
 
 -- after the loop: the last digit is left
 last-left : (e : tie.After-loop invariant-loop decreases-loop) → let l = e.before in
     Left (start l).args.out.now (start l).args.at (digits (n l)) l.loop.out l.loop.next ((48 + n l % 10) ∷ [])
-unfolding digitsFrom
+unfolding digits_from
 last-left e =
     let l = e.before in
     let none : l.loop.k ≡ 0 = omega (arith, e.loop-test.false) in
@@ -76,7 +76,7 @@ loop-again c =
     let i = wrote.before.before in
     let l = i.before in (
       omega (arith, l.loop.invariant.0),
-      ap (λ (p : ℕ). p / 10) l.loop.invariant.1 ∙ weight-next l.loop.k i.loop-test.true,
+      ap (λ (p : ℕ). p / 10) l.loop.invariant.1 ∙ weight_next l.loop.k i.loop-test.true,
       left_less _ _ _ _ _ _ _ _ _ (start l).requires (left_here i) wrote.put-leading.ensures,
     )
 

@@ -7,13 +7,13 @@ use native.Mathlib.Omega.{arith}
 use lib.Ieee.{nan}
 use lib.ListN.{length, take, drop, length-set}
 use borrow.Author.Rules.{rules}
-use Rattle.softmath.specs.CheckNode.{clampedAnswer}
+use Rattle.softmath.specs.CheckNode.{clamped_answer}
 use Rattle.lists.proofs.Loops.{each_more, each-done}
 use Rattle.each_message.proofs.clamped_answers.Statement.{statement}
 use Rattle.each_message.proofs.clamped_answers.Tie as tie
 
 abbrev invariant-loop : tie.invariant-loop
-invariant-loop part₀ i₀ part i = (i ≤ length part) × (length part ≡ length part₀) × (take i part ++ map clampedAnswer (drop i part) ≡ map clampedAnswer part₀)
+invariant-loop part₀ i₀ part i = (i ≤ length part) × (length part ≡ length part₀) × (take i part ++ map clamped_answer (drop i part) ≡ map clamped_answer part₀)
 
 abbrev decreases-loop : tie.decreases-loop
 decreases-loop part₀ i₀ part i = length part₀ - i
@@ -33,8 +33,8 @@ clamp-unit-requires c κs = search rules
 fast-atanh-requires : tie.Need-fast-atanh-requires invariant-loop decreases-loop
 fast-atanh-requires c κs = search rules
 
-mul-part : tie.Need-overflow-mul-part invariant-loop decreases-loop
-mul-part c = search rules
+mul_part : tie.Need-overflow-mul-part invariant-loop decreases-loop
+mul_part c = search rules
 
 slice-write-part : tie.Need-slice-write-part invariant-loop decreases-loop
 slice-write-part c = search rules
@@ -50,14 +50,14 @@ loop-again c =
     let turn = c.before.before.before in (
       simp length-set (omega arith),
       simp length-set (omega arith),
-      each_more clampedAnswer nan _ _ _ _ turn.loop-test.true (simp (c.fast-atanh.ensures, c.before.clamp-unit.ensures)) turn.before.loop.invariant.2,
+      each_more clamped_answer nan _ _ _ _ turn.loop-test.true (simp (c.fast-atanh.ensures, c.before.clamp-unit.ensures)) turn.before.loop.invariant.2,
     )
 
 same_length : tie.Need-same-length invariant-loop decreases-loop
 same_length c = search rules
 
 returns : tie.Need-returns invariant-loop decreases-loop
-returns c = each-done clampedAnswer nan _ _ _ c.loop-test.false c.before.loop.invariant.2
+returns c = each-done clamped_answer nan _ _ _ c.loop-test.false c.before.loop.invariant.2
 
 pub clamped-answers-spec : {M : Type 1} → statement M
 clamped-answers-spec =
@@ -70,7 +70,7 @@ clamped-answers-spec =
     slice-read-clamp-unit
     clamp-unit-requires
     fast-atanh-requires
-    mul-part
+    mul_part
     slice-write-part
     add-i
     loop-less

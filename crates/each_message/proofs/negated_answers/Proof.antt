@@ -7,13 +7,13 @@ use native.Mathlib.Omega.{arith}
 use lib.Ieee.{nan}
 use lib.ListN.{length, take, drop, length-set}
 use borrow.Author.Rules.{rules}
-use Rattle.softmath.specs.CheckNode.{negatedAnswer}
+use Rattle.softmath.specs.CheckNode.{negated_answer}
 use Rattle.lists.proofs.Loops.{each_more, each-done}
 use Rattle.each_message.proofs.negated_answers.Statement.{statement}
 use Rattle.each_message.proofs.negated_answers.Tie as tie
 
 abbrev invariant-loop : tie.invariant-loop
-invariant-loop part₀ i₀ part i = (i ≤ length part) × (length part ≡ length part₀) × (take i part ++ map negatedAnswer (drop i part) ≡ map negatedAnswer part₀)
+invariant-loop part₀ i₀ part i = (i ≤ length part) × (length part ≡ length part₀) × (take i part ++ map negated_answer (drop i part) ≡ map negated_answer part₀)
 
 abbrev decreases-loop : tie.decreases-loop
 decreases-loop part₀ i₀ part i = length part₀ - i
@@ -30,8 +30,8 @@ slice-read-fast-atanh c = search rules
 fast-atanh-requires : tie.Need-fast-atanh-requires invariant-loop decreases-loop
 fast-atanh-requires c κs = search rules
 
-mul-part : tie.Need-overflow-mul-part invariant-loop decreases-loop
-mul-part c = search rules
+mul_part : tie.Need-overflow-mul-part invariant-loop decreases-loop
+mul_part c = search rules
 
 slice-write-part : tie.Need-slice-write-part invariant-loop decreases-loop
 slice-write-part c = search rules
@@ -47,14 +47,14 @@ loop-again c =
     let turn = c.before.before in (
       simp length-set (omega arith),
       simp length-set (omega arith),
-      each_more negatedAnswer nan _ _ _ _ turn.loop-test.true (simp c.fast-atanh.ensures) turn.before.loop.invariant.2,
+      each_more negated_answer nan _ _ _ _ turn.loop-test.true (simp c.fast-atanh.ensures) turn.before.loop.invariant.2,
     )
 
 same_length : tie.Need-same-length invariant-loop decreases-loop
 same_length c = search rules
 
 returns : tie.Need-returns invariant-loop decreases-loop
-returns c = each-done negatedAnswer nan _ _ _ c.loop-test.false c.before.loop.invariant.2
+returns c = each-done negated_answer nan _ _ _ c.loop-test.false c.before.loop.invariant.2
 
 pub negated-answers-spec : {M : Type 1} → statement M
 negated-answers-spec =
@@ -66,7 +66,7 @@ negated-answers-spec =
     mul-fast-atanh
     slice-read-fast-atanh
     fast-atanh-requires
-    mul-part
+    mul_part
     slice-write-part
     add-i
     loop-less

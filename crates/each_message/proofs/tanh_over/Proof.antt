@@ -32,8 +32,8 @@ slice-read-fast-tanh c = search rules
 fast-tanh-requires : tie.Need-fast-tanh-requires invariant-loop decreases-loop
 fast-tanh-requires c κs = search rules
 
-mul-part : tie.Need-overflow-mul-part invariant-loop decreases-loop
-mul-part c = search rules
+mul_part : tie.Need-overflow-mul-part invariant-loop decreases-loop
+mul_part c = search rules
 
 slice-write-part : tie.Need-slice-write-part invariant-loop decreases-loop
 slice-write-part c = search rules
@@ -69,7 +69,7 @@ tanh-over-spec =
     mul-fast-tanh
     slice-read-fast-tanh
     fast-tanh-requires
-    mul-part
+    mul_part
     slice-write-part
     add-i
     loop-less

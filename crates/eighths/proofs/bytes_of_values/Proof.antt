@@ -4,13 +4,13 @@ use mathlib.Core.Bool.{not}
 use lib.ListN.{length}
 use borrow.Author.Rules.{rules}
 use Rattle.soft_bytes.specs.Values.{passes}
-use Rattle.eighths.specs.Calls.{some, valuesRefusals, bytes_of}
+use Rattle.eighths.specs.Calls.{some, values_refusals, bytes_of}
 use Rattle.eighths.proofs.Judged.{lengths_differ, test-holds, written}
 use Rattle.eighths.proofs.bytes_of_values.Statement.{statement}
 use Rattle.eighths.proofs.bytes_of_values.Tie as tie
 
 returns : tie.Need-returns
-unfolding valuesRefusals
+unfolding values_refusals
 returns c =
     let a = c.before.before.args in
     lengths_differ (length a.values.now) (length a.bytes.now) 18 (some (λ v. not (passes v)) a.values.now) a.bytes.now
@@ -20,7 +20,7 @@ some-not-passing-requires : tie.Need-some-not-passing-requires
 some-not-passing-requires c κs = search rules
 
 returns-2 : tie.Need-returns-2
-unfolding valuesRefusals
+unfolding values_refusals
 returns-2 c =
     let tested = c.before in
     let a = tested.before.before.before.args in
@@ -36,7 +36,7 @@ same_length : tie.Need-same-length
 same_length c = search rules
 
 returns-3 : tie.Need-returns-3
-unfolding valuesRefusals
+unfolding values_refusals
 returns-3 c =
     let done = c.before in
     let other = done.before.before in

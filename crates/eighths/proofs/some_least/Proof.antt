@@ -5,15 +5,15 @@ use native.Mathlib.Omega.{arith}
 use lib.IntN.{pos}
 use lib.ListN.{length, drop, get_or}
 use borrow.Author.Rules.{rules}
-use Rattle.soft_bytes.specs.Values.{isLeast}
+use Rattle.soft_bytes.specs.Values.{is_least}
 use Rattle.eighths.specs.Calls.{some}
-use Rattle.soft_bytes.proofs.Byte.{least-bits, more-bits}
+use Rattle.soft_bytes.proofs.Byte.{least_bits, more_bits}
 use Rattle.eighths.proofs.Lists.{some_more, some-found, some-none}
 use Rattle.eighths.proofs.some_least.Statement.{statement}
 use Rattle.eighths.proofs.some_least.Tie as tie
 
 abbrev invariant-loop : tie.invariant-loop
-invariant-loop bytes i₀ i = (i ≤ length bytes) × (some isLeast (drop i bytes) ≡ some isLeast bytes)
+invariant-loop bytes i₀ i = (i ≤ length bytes) × (some is_least (drop i bytes) ≡ some is_least bytes)
 
 abbrev decreases-loop : tie.decreases-loop
 decreases-loop bytes i₀ i = length bytes - i
@@ -29,7 +29,7 @@ returns c =
     let turn = c.before.before in
     let bytes = turn.before.before.args.bytes.now in
     let i = turn.before.loop.i in
-    some-found isLeast (pos 0) bytes _ i turn.loop-test.true (least-bits (get_or bytes i (pos 0)) (record { sfits = c.before.b.given }) c.if1.true)
+    some-found is_least (pos 0) bytes _ i turn.loop-test.true (least_bits (get_or bytes i (pos 0)) (record { sfits = c.before.b.given }) c.if1.true)
     turn.before.loop.invariant.1
 
 add-i : tie.Need-overflow-add-i invariant-loop decreases-loop
@@ -43,10 +43,10 @@ loop-again c =
     let turn = c.before.before in
     let bytes = turn.before.before.args.bytes.now in
     let i = turn.before.loop.i in
-    (omega arith, some_more isLeast (pos 0) bytes _ i turn.loop-test.true (more-bits (get_or bytes i (pos 0)) c.if1.false) turn.before.loop.invariant.1)
+    (omega arith, some_more is_least (pos 0) bytes _ i turn.loop-test.true (more_bits (get_or bytes i (pos 0)) c.if1.false) turn.before.loop.invariant.1)
 
 returns-2 : tie.Need-returns-2 invariant-loop decreases-loop
-returns-2 c = some-none isLeast (pos 0) c.before.before.args.bytes.now _ c.before.loop.i c.loop-test.false c.before.loop.invariant.1
+returns-2 c = some-none is_least (pos 0) c.before.before.args.bytes.now _ c.before.loop.i c.loop-test.false c.before.loop.invariant.1
 
 pub some-least-spec : {M : Type 1} → statement M
 some-least-spec =

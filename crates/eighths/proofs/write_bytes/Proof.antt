@@ -9,11 +9,11 @@ use mir.Syntax.{w8}
 use mir.Val.{of_z, to_z}
 use mir.ValLaws.{to_z-of_z}
 use borrow.Author.Rules.{rules}
-use Rattle.soft_bytes.specs.Values.{byteOf}
+use Rattle.soft_bytes.specs.Values.{byte_of}
 use Rattle.eighths.specs.Calls.{bytes_of}
 use Rattle.soft_bytes.proofs.Byte.{byte_fits}
 use Rattle.lists.proofs.Loops.{map_more, map-done}
-use Rattle.eighths.proofs.Lists.{pass-at}
+use Rattle.eighths.proofs.Lists.{pass_at}
 use Rattle.eighths.proofs.write_bytes.Statement.{statement}
 use Rattle.eighths.proofs.write_bytes.Tie as tie
 
@@ -38,7 +38,7 @@ byte-of-requires : tie.Need-byte-of-requires invariant-loop decreases-loop
 byte-of-requires c κs =
     let turn = c.before in
     let start = turn.before.before.before in
-    pass-at start.args.values.now turn.before.loop.i start.requires.1 (omega arith)
+    pass_at start.args.values.now turn.before.loop.i start.requires.1 (omega arith)
 
 slice-set-from-b : tie.Need-slice-set-from-b invariant-loop decreases-loop
 slice-set-from-b c = search rules
@@ -56,10 +56,10 @@ loop-again c =
     let start = turn.before.before.before in
     let a = start.args in
     let now = turn.before.loop in
-    let passing = pass-at a.values.now now.i start.requires.1 (omega arith) in (
+    let passing = pass_at a.values.now now.i start.requires.1 (omega arith) in (
       simp length-set (omega arith),
       simp length-set (omega arith),
-      map_more (byteOf a.positive-is-one) nan a.values.now now.bytes now.i _ (omega arith) (omega arith)
+      map_more (byte_of a.positive-is-one) nan a.values.now now.bytes now.i _ (omega arith) (omega arith)
           (ap (λ (z : ℤ). to_z w8 (of_z w8 z)) c.byte_of.ensures ∙ to_z-of_z w8 _ (byte_fits (get_or a.values.now now.i nan) passing a.positive-is-one))
           now.invariant.2,
     )
@@ -72,7 +72,7 @@ unfolding bytes_of
 returns c =
     let a = c.before.before.before.args in
     let now = c.before.loop in
-    map-done (byteOf a.positive-is-one) nan a.values.now now.bytes now.i (omega arith) c.loop-test.false now.invariant.2
+    map-done (byte_of a.positive-is-one) nan a.values.now now.bytes now.i (omega arith) c.loop-test.false now.invariant.2
 
 pub write-bytes-spec : {M : Type 1} → statement M
 write-bytes-spec =

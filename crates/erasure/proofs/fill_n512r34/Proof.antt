@@ -2,11 +2,11 @@
 use native.Mathlib.Omega.{arith}
 use Rattle.construction.specs.Codes.{n512r34}
 use Rattle.staircase.proofs.Laid.{check-bits-right, check-starts-right}
-use Rattle.n512r34.proofs.Tables.{checkStarts2, checkBits2, laid2}
-use Rattle.ldpc_codes.proofs.Laid.{laid-flat}
+use Rattle.n512r34.proofs.Tables.{check_starts2, check_bits2, laid2}
+use Rattle.ldpc_codes.proofs.Laid.{laid_flat}
 use Rattle.erasure.proofs.Answers.{staircase-rows, at-checks}
-use Rattle.numbered.specs.Codes.{sizeN, checksBy}
-use Rattle.erasure.specs.Calls.{erasureRefusals}
+use Rattle.numbered.specs.Codes.{size_n, checks_by}
+use Rattle.erasure.specs.Calls.{erasure_refusals}
 use borrow.Author.Rules.{rules}
 use Rattle.erasure.proofs.fill_n512r34.Statement.{statement}
 use Rattle.erasure.proofs.fill_n512r34.Tie as tie
@@ -18,8 +18,8 @@ slice-aggregate-fill-over-2 : tie.Need-slice-aggregate-fill-over-2
 slice-aggregate-fill-over-2 c = search rules
 
 fill-over-requires : tie.Need-fill-over-requires
-unfolding checkStarts2 checkBits2
-fill-over-requires c κs = (laid-flat n512r34 checkStarts2 checkBits2 (check-starts-right laid2) (check-bits-right laid2) (omega arith), omega arith)
+unfolding check_starts2 check_bits2
+fill-over-requires c κs = (laid_flat n512r34 check_starts2 check_bits2 (check-starts-right laid2) (check-bits-right laid2) (omega arith), omega arith)
 
 same_length : tie.Need-same-length
 same_length c = search rules
@@ -28,14 +28,14 @@ same-length-2 : tie.Need-same-length-2
 same-length-2 c = search rules
 
 returns : tie.Need-returns
-unfolding sizeN checksBy checkStarts2 checkBits2
+unfolding size_n checks_by check_starts2 check_bits2
 returns c =
     let done = c.before.before.before.before in
     let a = done.before.before.before.before.before.before.before.args in
     let w = a.word.now in
     let l = a.places.now in
-    let rows = staircase-rows n512r34 checkStarts2 checkBits2 (check-starts-right laid2) (check-bits-right laid2) in
-    at-checks _ _ rows (erasureRefusals 2 w l) w l done.fill-over.ensures
+    let rows = staircase-rows n512r34 check_starts2 check_bits2 (check-starts-right laid2) (check-bits-right laid2) in
+    at-checks _ _ rows (erasure_refusals 2 w l) w l done.fill-over.ensures
 
 pub fill-n512r34-spec : {M : Type 1} → statement M
 fill-n512r34-spec =

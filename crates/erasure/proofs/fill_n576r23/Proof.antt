@@ -2,11 +2,11 @@
 use native.Mathlib.Omega.{arith}
 use Rattle.construction.specs.Codes.{n576r23}
 use Rattle.staircase.proofs.Laid.{check-bits-right, check-starts-right}
-use Rattle.n576r23.proofs.Tables.{checkStarts1, checkBits1, laid1}
-use Rattle.ldpc_codes.proofs.Laid.{laid-flat}
+use Rattle.n576r23.proofs.Tables.{check_starts1, check_bits1, laid1}
+use Rattle.ldpc_codes.proofs.Laid.{laid_flat}
 use Rattle.erasure.proofs.Answers.{staircase-rows, at-checks}
-use Rattle.numbered.specs.Codes.{sizeN, checksBy}
-use Rattle.erasure.specs.Calls.{erasureRefusals}
+use Rattle.numbered.specs.Codes.{size_n, checks_by}
+use Rattle.erasure.specs.Calls.{erasure_refusals}
 use borrow.Author.Rules.{rules}
 use Rattle.erasure.proofs.fill_n576r23.Statement.{statement}
 use Rattle.erasure.proofs.fill_n576r23.Tie as tie
@@ -18,8 +18,8 @@ slice-aggregate-fill-over-2 : tie.Need-slice-aggregate-fill-over-2
 slice-aggregate-fill-over-2 c = search rules
 
 fill-over-requires : tie.Need-fill-over-requires
-unfolding checkStarts1 checkBits1
-fill-over-requires c κs = (laid-flat n576r23 checkStarts1 checkBits1 (check-starts-right laid1) (check-bits-right laid1) (omega arith), omega arith)
+unfolding check_starts1 check_bits1
+fill-over-requires c κs = (laid_flat n576r23 check_starts1 check_bits1 (check-starts-right laid1) (check-bits-right laid1) (omega arith), omega arith)
 
 same_length : tie.Need-same-length
 same_length c = search rules
@@ -28,14 +28,14 @@ same-length-2 : tie.Need-same-length-2
 same-length-2 c = search rules
 
 returns : tie.Need-returns
-unfolding sizeN checksBy checkStarts1 checkBits1
+unfolding size_n checks_by check_starts1 check_bits1
 returns c =
     let done = c.before.before.before.before in
     let a = done.before.before.before.before.before.before.before.args in
     let w = a.word.now in
     let l = a.places.now in
-    let rows = staircase-rows n576r23 checkStarts1 checkBits1 (check-starts-right laid1) (check-bits-right laid1) in
-    at-checks _ _ rows (erasureRefusals 1 w l) w l done.fill-over.ensures
+    let rows = staircase-rows n576r23 check_starts1 check_bits1 (check-starts-right laid1) (check-bits-right laid1) in
+    at-checks _ _ rows (erasure_refusals 1 w l) w l done.fill-over.ensures
 
 pub fill-n576r23-spec : {M : Type 1} → statement M
 fill-n576r23-spec =

@@ -3,9 +3,9 @@ use Prim.Native.Nat.{◌+◌, ◌≤◌}
 use native.Mathlib.Omega.{arith}
 use lib.ListN.{length}
 use Rattle.text.proofs.Put.{then}
-use Rattle.text.proofs.Lengths.{refusal-short}
-use Rattle.digits.proofs.Digits.{digits-short}
-use Rattle.figure_lines.specs.Lines.{refusedLine, unreadableLine}
+use Rattle.text.proofs.Lengths.{refusal_short}
+use Rattle.digits.proofs.Digits.{digits_short}
+use Rattle.figure_lines.specs.Lines.{refused_line, unreadable_line}
 use Rattle.figure_lines.proofs.Lengths.{room_after, digits-room}
 use borrow.Author.Rules.{rules}
 use Rattle.figure_lines.proofs.file_line.Statement.{statement}
@@ -17,7 +17,7 @@ abbrev start : tie.After-put-digits → tie.Start
 start p = p.before.before.before
 
 room1 : (p : tie.After-put-digits) → p.put-digits.result + 15 ≤ length p.put-digits.new.0
-room1 p = room_after _ 15 p.put-digits.ensures (digits-short _) (omega (arith, (start p).requires))
+room1 p = room_after _ 15 p.put-digits.ensures (digits_short _) (omega (arith, (start p).requires))
 
 -- a refusal: the space before it
 abbrev reason : tie.After-put-byte → tie.After-reason
@@ -57,7 +57,7 @@ cast-refusal-line : tie.Need-overflow-cast-refusal-line
 cast-refusal-line c = search rules
 
 refusal-line-requires : tie.Need-refusal-line-requires
-refusal-line-requires c κs = omega (arith, room2 c.before.before.before.before, refusal-short c.number.result)
+refusal-line-requires c κs = omega (arith, room2 c.before.before.before.before, refusal_short c.number.result)
 
 enum_told : tie.Need-enum-told
 enum_told c = search rules
@@ -75,7 +75,7 @@ same_length : tie.Need-same-length
 same_length c = search rules
 
 returns : tie.Need-returns
-unfolding refusedLine
+unfolding refused_line
 returns c =
     let d = c.before.before in
     let b = d.before.before.before.before.before in
@@ -89,7 +89,7 @@ same-length-2 : tie.Need-same-length-2
 same-length-2 c = search rules
 
 returns-2 : tie.Need-returns-2
-unfolding unreadableLine
+unfolding unreadable_line
 returns-2 c =
     let e = c.before.before in
     let w = e.before.before.before.before in

@@ -3,8 +3,8 @@ use Prim.Native.Nat.{◌+◌, ◌≤◌}
 use native.Mathlib.Omega.{arith}
 use lib.ListN.{length}
 use Rattle.text.proofs.Put.{then}
-use Rattle.figure_lines.specs.Lines.{figuresText}
-use Rattle.figure_lines.proofs.Lengths.{room_after, sums-short, fraction-short, fraction-room}
+use Rattle.figure_lines.specs.Lines.{figures_text}
+use Rattle.figure_lines.proofs.Lengths.{room_after, sums_short, fraction_short, fraction-room}
 use borrow.Author.Rules.{rules}
 use Rattle.figure_lines.proofs.put_figures.Statement.{statement}
 use Rattle.figure_lines.proofs.put_figures.Tie as tie
@@ -21,13 +21,13 @@ abbrev B : tie.After-put-fraction2 → tie.After-put-fraction
 B c = c.before.before.before.before.before
 
 room1 : (a : tie.After-put-sums) → a.put-sums.result + 96 ≤ length a.put-sums.new.0
-room1 a = room_after _ 96 a.put-sums.ensures (sums-short _) (omega (arith, (Z a).requires))
+room1 a = room_after _ 96 a.put-sums.ensures (sums_short _) (omega (arith, (Z a).requires))
 
 room2 : (b : tie.After-put-fraction) → b.put-fraction.result + 48 ≤ length b.put-fraction.new.0
-room2 b = room_after _ 48 b.put-fraction.ensures (fraction-short _ _) (omega (arith, room1 (A b)))
+room2 b = room_after _ 48 b.put-fraction.ensures (fraction_short _ _) (omega (arith, room1 (A b)))
 
 room3 : (c : tie.After-put-fraction2) → c.put-fraction2.result + 1 ≤ length c.put-fraction2.new.0
-room3 c = room_after _ 1 c.put-fraction2.ensures (fraction-short _ _) (omega (arith, room2 (B c)))
+room3 c = room_after _ 1 c.put-fraction2.ensures (fraction_short _ _) (omega (arith, room2 (B c)))
 
 -- ---- the needs
 
@@ -53,13 +53,13 @@ same_length : tie.Need-same-length
 same_length c = search rules
 
 returns : tie.Need-returns
-unfolding figuresText
+unfolding figures_text
 returns c =
     let d = c.before.before in
     let e = d.before.before.before.before in
     let b = B e in
     let a = A b in
-    then a.put-sums.ensures (omega (arith, (Z a).pre, sums-short (Z a).args.t))
+    then a.put-sums.ensures (omega (arith, (Z a).pre, sums_short (Z a).args.t))
     (then b.put-fraction.ensures (fraction-room _ _ _ _ (omega (arith, room1 a)))
     (then e.put-fraction2.ensures (fraction-room _ _ _ _ (omega (arith, room2 b)))
     d.put_byte.ensures))

@@ -3,7 +3,7 @@ use Prim.Native.Nat.{◌+◌, ◌≤◌}
 use native.Mathlib.Omega.{arith}
 use lib.ListN.{length}
 use Rattle.text.proofs.Put.{then}
-use Rattle.figure_lines.specs.Lines.{fractionText}
+use Rattle.figure_lines.specs.Lines.{fraction_text}
 use Rattle.figure_lines.proofs.Lengths.{room_after, number_short, number-room}
 use borrow.Author.Rules.{rules}
 use Rattle.figure_lines.proofs.put_fraction.Statement.{statement}
@@ -33,7 +33,7 @@ same_length : tie.Need-same-length
 same_length c = search rules
 
 returns : tie.Need-returns
-unfolding fractionText
+unfolding fraction_text
 returns c =
     let done = c.before.before in
     let n = done.before.before.before.before.before in

@@ -3,7 +3,7 @@ use Prim.Native.Nat.{◌+◌, ◌≤◌}
 use native.Mathlib.Omega.{arith}
 use lib.ListN.{length}
 use Rattle.text.proofs.Put.{then}
-use Rattle.figure_lines.specs.Lines.{sumsText}
+use Rattle.figure_lines.specs.Lines.{sums_text}
 use Rattle.figure_lines.proofs.Lengths.{room_after, number_short, number-room}
 use borrow.Author.Rules.{rules}
 use Rattle.figure_lines.proofs.put_sums.Statement.{statement}
@@ -62,7 +62,7 @@ same_length : tie.Need-same-length
 same_length c = search rules
 
 returns : tie.Need-returns
-unfolding sumsText
+unfolding sums_text
 returns c =
     let d = c.before.before in
     let e = d.before.before.before.before.before in

@@ -1,7 +1,7 @@
 -- `figure_report::add_file` meets its contract, by what the file gave: nothing to read, a batch that is added, or one that is refused.
 use mathlib.Core.Path.{◌≡◌, sym, ap, ◌∙◌}
 use mathlib.Core.Bool.{true}
-use Rattle.figures.specs.Totals.{summedOf}
+use Rattle.figures.specs.Totals.{summed_of}
 use Rattle.figure_report.proofs.Report.{unread-step, counted_step, refused-step}
 use borrow.Author.Tests.{not-true, not-false}
 use borrow.Author.Rules.{rules}
@@ -49,7 +49,7 @@ returns-2 c =
     let k = c.before in
     let h = k.before.before in
     let a = (entry h.before.before).args in
-    rw (readable h) (counted_step a.place a.total a.input.now _ _ (sym (ap summedOf k.sum.given.1) ∙ h.add-input.ensures))
+    rw (readable h) (counted_step a.place a.total a.input.now _ _ (sym (ap summed_of k.sum.given.1) ∙ h.add-input.ensures))
 
 same-length-2 : tie.Need-same-length-2
 same-length-2 c = search rules
@@ -61,7 +61,7 @@ returns-3 c =
     let h = k.before.before in
     let a = (entry h.before.before).args in
     rw (readable h)
-    (refused-step a.place a.total a.input.now _ _ _ k.r.given.0.0 (sym (ap summedOf k.r.given.1) ∙ h.add-input.ensures)
+    (refused-step a.place a.total a.input.now _ _ _ k.r.given.0.0 (sym (ap summed_of k.r.given.1) ∙ h.add-input.ensures)
     done.file-line2.ensures)
 
 pub add-file-spec : {M : Type 1} → statement M

@@ -18,8 +18,8 @@ a e = e.before.before.before.before.args.a
 abbrev b : tie.Else1 → Totals
 b e = e.before.before.before.before.args.b
 
-frames-fit : (e : tie.Else1) → passed (a e).frames (b e).frames 4294967295 ≡ false
-frames-fit e = sym e.before.passes.ensures ∙ e.if1.false
+frames_fit : (e : tie.Else1) → passed (a e).frames (b e).frames 4294967295 ≡ false
+frames_fit e = sym e.before.passes.ensures ∙ e.if1.false
 
 abbrev framed : tie.Else2 → tie.Else1
 framed e = e.before.before
@@ -46,7 +46,7 @@ rounds-fit e = sym e.before.passes4.ensures ∙ e.if4.false
 within : (e : tie.Else4) → Within (sums (a (first e)) (b (first e)))
 within e =
     record {
-      frames = ltb-false _ _ (frames-fit (first e));
+      frames = ltb-false _ _ (frames_fit (first e));
       clean = ltb-false _ _ (clean-fit (cleaned (counted e)));
       counts = ltb-false _ _ (counts-fit (counted e));
       rounds = ltb-false _ _ (rounds-fit e);
@@ -76,7 +76,7 @@ passes-requires-2 : tie.Need-passes-requires-2
 passes-requires-2 c κs = search rules
 
 returns-2 : tie.Need-returns-2
-returns-2 c = simp (frames-fit c.before.before, sym c.before.passes2.ensures ∙ c.if2.true)
+returns-2 c = simp (frames_fit c.before.before, sym c.before.passes2.ensures ∙ c.if2.true)
 
 passes-requires-3 : tie.Need-passes-requires-3
 passes-requires-3 c κs = search rules
@@ -84,7 +84,7 @@ passes-requires-3 c κs = search rules
 returns-3 : tie.Need-returns-3
 returns-3 c =
     let e = c.before.before in
-    simp (frames-fit (framed e), clean-fit e, sym c.before.passes3.ensures ∙ c.if3.true)
+    simp (frames_fit (framed e), clean-fit e, sym c.before.passes3.ensures ∙ c.if3.true)
 
 passes-requires-4 : tie.Need-passes-requires-4
 passes-requires-4 c κs = search rules
@@ -92,7 +92,7 @@ passes-requires-4 c κs = search rules
 returns-4 : tie.Need-returns-4
 returns-4 c =
     let e = c.before.before in
-    simp (frames-fit (framed (cleaned e)), clean-fit (cleaned e), counts-fit e, sym c.before.passes4.ensures ∙ c.if4.true)
+    simp (frames_fit (framed (cleaned e)), clean-fit (cleaned e), counts-fit e, sym c.before.passes4.ensures ∙ c.if4.true)
 
 add-t13 : tie.Need-overflow-add-t13
 add-t13 c = omega (arith, within (tested c))
@@ -109,7 +109,7 @@ add-t14 c = omega (arith, within (tested (summed c.before.before)))
 returns-5 : tie.Need-returns-5
 returns-5 c =
     let e = tested (summed c.before.before) in
-    simp (frames-fit (first e), clean-fit (cleaned (counted e)), counts-fit (counted e), rounds-fit e)
+    simp (frames_fit (first e), clean-fit (cleaned (counted e)), counts-fit (counted e), rounds-fit e)
 
 pub join-spec : {M : Type 1} → statement M
 join-spec =

@@ -2,14 +2,14 @@
 use mathlib.Core.Path.{◌≡◌}
 use Prim.Native.Nat.{◌-◌, ◌≤◌}
 use lib.ListN.{length, drop}
-use Rattle.filling.specs.Calls.{aboveTwo}
+use Rattle.filling.specs.Calls.{above_two}
 use Rattle.filling.proofs.Steps.{above-found, above_more, above-done}
 use borrow.Author.Rules.{rules}
 use Rattle.filling.proofs.above_two.Statement.{statement}
 use Rattle.filling.proofs.above_two.Tie as tie
 
 abbrev invariant-loop : tie.invariant-loop
-invariant-loop word i₀ i = (i ≤ length word) × (aboveTwo (drop i word) ≡ aboveTwo word)
+invariant-loop word i₀ i = (i ≤ length word) × (above_two (drop i word) ≡ above_two word)
 
 abbrev decreases-loop : tie.decreases-loop
 decreases-loop word i₀ i = length word - i

@@ -4,7 +4,7 @@ use Prim.Native.Nat.{◌-◌}
 use lib.ListN.{length}
 use Rattle.tanner.specs.Flat.{rows_of}
 use Rattle.filling.specs.Calls.{next_of}
-use Rattle.filling.proofs.Settings.{taken, taken-inside}
+use Rattle.filling.proofs.Settings.{taken, taken_inside}
 use Rattle.filling.proofs.Steps.{Going, going_start, going_more, going-none, going-full}
 use borrow.Author.Rules.{rules}
 use Rattle.filling.proofs.fill.Statement.{statement}
@@ -52,7 +52,7 @@ cast-at c = search rules
 slice-write-word : tie.Need-slice-write-word invariant-loop decreases-loop
 slice-write-word c =
     let found = c.before.before.before in
-    taken-inside (taken _ _ _ _ (sym found.next-setting.ensures ∙ ap next_of c.before.p.given.1))
+    taken_inside (taken _ _ _ _ (sym found.next-setting.ensures ∙ ap next_of c.before.p.given.1))
 
 mul-places : tie.Need-overflow-mul-places invariant-loop decreases-loop
 mul-places c = search rules

@@ -4,7 +4,7 @@ use Prim.Native.Nat.{◌-◌, ◌≤◌}
 use native.Mathlib.Omega.{arith}
 use lib.ListN.{length}
 use Rattle.lists.specs.Below.{Below}
-use Rattle.filling.proofs.Steps.{Scanned, scan-start, scan-unknown, scan-known, scan-one, scan-none}
+use Rattle.filling.proofs.Steps.{Scanned, scan_start, scan-unknown, scan-known, scan-one, scan-none}
 use borrow.Author.Rules.{rules}
 use Rattle.filling.proofs.next_in.Statement.{statement}
 use Rattle.filling.proofs.next_in.Tie as tie
@@ -16,7 +16,7 @@ abbrev decreases-loop : tie.decreases-loop
 decreases-loop positions word unknowns₀ at₀ odd₀ i₀ unknowns at odd i = length positions - i
 
 loop-holds : tie.Need-loop-init invariant-loop decreases-loop
-loop-holds c = (search rules, scan-start _ _)
+loop-holds c = (search rules, scan_start _ _)
 
 mul-p : tie.Need-overflow-mul-p invariant-loop decreases-loop
 mul-p c = search rules

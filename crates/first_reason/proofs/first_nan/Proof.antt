@@ -2,14 +2,14 @@
 use mathlib.Core.Path.{◌≡◌, refl, sym, ◌∙◌}
 use Prim.Native.Nat.{◌-◌, ◌≤◌}
 use lib.ListN.{length, drop}
-use Rattle.first_reason.specs.Reasons.{firstNan}
-use Rattle.first_reason.proofs.Steps.{nan-here, nan-later, nan-nowhere}
+use Rattle.first_reason.specs.Reasons.{first_nan}
+use Rattle.first_reason.proofs.Steps.{nan-here, nan-later, nan_nowhere}
 use borrow.Author.Rules.{rules}
 use Rattle.first_reason.proofs.first_nan.Statement.{statement}
 use Rattle.first_reason.proofs.first_nan.Tie as tie
 
 abbrev invariant-loop : tie.invariant-loop
-invariant-loop values i₀ i = (i ≤ length values) × (firstNan i (drop i values) ≡ firstNan 0 values)
+invariant-loop values i₀ i = (i ≤ length values) × (first_nan i (drop i values) ≡ first_nan 0 values)
 
 abbrev decreases-loop : tie.decreases-loop
 decreases-loop values i₀ i = length values - i
@@ -39,7 +39,7 @@ loop-again : tie.Need-loop-preserved invariant-loop decreases-loop
 loop-again c = let turn = c.before.before in (search rules, sym (nan-later _ _ turn.loop-test.true c.if1.false) ∙ turn.before.loop.invariant.1)
 
 returns-2 : tie.Need-returns-2 invariant-loop decreases-loop
-returns-2 c = nan-nowhere _ _ c.loop-test.false c.before.loop.invariant.0 ∙ c.before.loop.invariant.1
+returns-2 c = nan_nowhere _ _ c.loop-test.false c.before.loop.invariant.0 ∙ c.before.loop.invariant.1
 
 pub first-nan-spec : {M : Type 1} → statement M
 first-nan-spec =

@@ -7,8 +7,8 @@ use lib.ListN.{length, take}
 use lib.Seq.{length-take-le}
 use Rattle.tanner.specs.Checks.{none}
 use Rattle.tanner.specs.Found.{first_of}
-use Rattle.numbered.specs.Codes.{sizeK}
-use Rattle.first_reason.specs.Reasons.{firstNan, checksumOr}
+use Rattle.numbered.specs.Codes.{size_k}
+use Rattle.first_reason.specs.Reasons.{first_nan, checksum_or}
 use Rattle.first_reason.specs.declared.FirstNan.TheVariants.{Absent}
 use borrow.Author.Rules.{rules}
 use Rattle.first_reason.proofs.reason_of.Statement.{statement}
@@ -20,7 +20,7 @@ abbrev entry : tie.After-first-nan → tie.Start
 entry c = c.before.before.before
 
 -- no value is NaN
-no_nan : (c : tie.After-enum-told) → firstNan 0 (entry c.before.before).args.values.now ≡ Absent
+no_nan : (c : tie.After-enum-told) → first_nan 0 (entry c.before.before).args.values.now ≡ Absent
 no_nan c = sym c.before.before.first-nan.ensures ∙ c.enum_told.given.1
 
 -- and no check is unsatisfied
@@ -64,13 +64,13 @@ checksum-reason-requires : tie.Need-checksum-reason-requires
 checksum-reason-requires c κs = front c.before
 
 returns-3 : tie.Need-returns-3
-unfolding sizeK
+unfolding size_k
 returns-3 c =
     let ft8 = c.before.before in
     rw (no_nan ft8.before.before.before, no-check ft8.before, ft8.if1.true) c.checksum-reason.ensures
 
 returns-4 : tie.Need-returns-4
-unfolding checksumOr
+unfolding checksum_or
 returns-4 c = rw (no_nan c.before.before.before, no-check c.before, ne_eqb _ _ c.if1.false)
 
 pub reason-of-spec : {M : Type 1} → statement M

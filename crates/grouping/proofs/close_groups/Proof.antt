@@ -7,8 +7,8 @@ use Prim.Native.Nat.{ℕ, ◌+◌, ◌-◌, ◌*◌, ◌<◌, ◌≤◌}
 use native.Mathlib.Nat.{zero-mul}
 use native.Mathlib.Omega.{arith}
 use lib.ListN.{length, get_or, take, drop}
-use Rattle.grouping.specs.Grouping.{total, groupBits, delivered}
-use Rattle.grouping.proofs.Groups.{frames-fit, rest-fits, bytes_fit, next-length, next-group, all_closed}
+use Rattle.grouping.specs.Grouping.{total, group_bits, delivered}
+use Rattle.grouping.proofs.Groups.{frames_fit, rest-fits, bytes_fit, next-length, next-group, all_closed}
 use borrow.Author.Rules.{rules}
 use Rattle.grouping.proofs.close_groups.Statement.{statement}
 use Rattle.grouping.proofs.close_groups.Tie as tie
@@ -66,7 +66,7 @@ turn c =
     let bytes = bytes_fit a.k a.sizes.now a.clean.now x.at x.g h x.invariant.1 x.bits x.invariant.2 in
     record {
       group = h;
-      frames = frames-fit a.k a.sizes.now a.clean.now x.at x.g h x.invariant.1;
+      frames = frames_fit a.k a.sizes.now a.clean.now x.at x.g h x.invariant.1;
       first = bytes.0;
       last = bytes.1;
     }
@@ -133,7 +133,7 @@ loop-again c =
     let t = turn (inside done) in
     let call = c.before.before.close-group in
     let part = call.new.1.0 in
-    let new = call.ensures ∙ ap (λ (d : Bool). groupBits d (bytes l)) done.all-clean.ensures in (
+    let new = call.ensures ∙ ap (λ (d : Bool). group_bits d (bytes l)) done.all-clean.ensures in (
       omega (arith, t.group),
       rest-fits a.k a.sizes.now a.clean.now x.at x.g t.group x.inv.1,
       next-length a.k a.sizes.now a.clean.now x.at x.g t.group x.inv.1 x.bits part x.inv.2 new,

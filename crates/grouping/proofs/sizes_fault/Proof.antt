@@ -5,7 +5,7 @@ use Prim.Native.Nat.{◌<◌, ◌≤◌, ◌-◌}
 use native.Mathlib.Omega.{arith}
 use lib.ListN.{length, drop}
 use native.Mathlib.Nat.{pos_of_ne-zero}
-use Rattle.grouping.proofs.Sizes.{wrong, no-list, refused-zero, refused-past, rest-next, refused-left, all-taken}
+use Rattle.grouping.proofs.Sizes.{wrong, no_list, refused-zero, refused-past, rest-next, refused-left, all-taken}
 use borrow.Author.Rules.{rules}
 use Rattle.grouping.proofs.sizes_fault.Statement.{statement}
 use Rattle.grouping.proofs.sizes_fault.Tie as tie
@@ -28,7 +28,7 @@ read c = c.before.before
 -- ---- the needs
 
 returns : tie.Need-returns invariant-loop decreases-loop
-returns c = let a = c.before.args in sym (no-list a.sizes.now a.frames c.if1.true)
+returns c = let a = c.before.args in sym (no_list a.sizes.now a.frames c.if1.true)
 
 loop-holds : tie.Need-loop-init invariant-loop decreases-loop
 loop-holds c = search rules

@@ -8,21 +8,21 @@ use native.Mathlib.Omega.{arith}
 use lib.Ieee.{Float}
 use lib.ListN.{length, get_or, take, length-set}
 use Rattle.lists.proofs.Loops.{fill_more, fill_done}
-use Rattle.batch.specs.Pairs.{pairsOf, framesOf}
-use Rattle.clean_frames.specs.CleanFrames.{cleanOf}
-use Rattle.groups.specs.Groups.{cleanFrom}
+use Rattle.batch.specs.Pairs.{pairs_of, frames_of}
+use Rattle.clean_frames.specs.CleanFrames.{clean_of}
+use Rattle.groups.specs.Groups.{clean_from}
 use Rattle.groups.proofs.Clean.{clean-length, clean_at}
 use borrow.Author.Rules.{rules}
 use Rattle.groups.proofs.clean_list.Statement.{statement}
 use Rattle.groups.proofs.clean_list.Tie as tie
 
 -- whether each frame is clean
-abbrev clean_of : (code : ℕ) → List Float → List ℕ → List ℕ → List ℕ → ℕ → Bool
-clean_of code values pairs counts bits = cleanOf code (framesOf values (pairsOf pairs)) counts bits
+abbrev clean_of_lem : (code : ℕ) → List Float → List ℕ → List ℕ → List ℕ → ℕ → Bool
+clean_of_lem code values pairs counts bits = clean_of code (frames_of values (pairs_of pairs)) counts bits
 
 abbrev invariant-loop : tie.invariant-loop
 invariant-loop code values pairs counts bits clean₀ j₀ clean j =
-    (j ≤ length clean₀) × (length clean ≡ length clean₀) × (take j clean ≡ take j (cleanFrom (clean_of code values pairs counts bits) 0 (length clean₀)))
+    (j ≤ length clean₀) × (length clean ≡ length clean₀) × (take j clean ≡ take j (clean_from (clean_of_lem code values pairs counts bits) 0 (length clean₀)))
 
 abbrev decreases-loop : tie.decreases-loop
 decreases-loop code values pairs counts bits clean₀ j₀ clean j = length clean₀ - j
@@ -37,13 +37,13 @@ entry l = l.before.before.before.before.before.before
 
 -- the list, whole
 abbrev ok : Loop → ℕ → Bool
-ok l = let a = (entry l).args in clean_of a.code a.values.now a.pairs.now a.counts.now a.bits.now
+ok l = let a = (entry l).args in clean_of_lem a.code a.values.now a.pairs.now a.counts.now a.bits.now
 
 abbrev many : Loop → ℕ
 many l = length (entry l).args.clean.now
 
 abbrev whole : Loop → List Bool
-whole l = cleanFrom (ok l) 0 (many l)
+whole l = clean_from (ok l) 0 (many l)
 
 size : (l : Loop) → length (whole l) ≡ many l
 size l = clean-length (ok l) 0 (many l)

@@ -3,12 +3,12 @@ use mathlib.Core.Path.{◌≡◌, sym, ap, ◌∙◌}
 use mathlib.Core.List.{List}
 use Prim.Native.Nat.{ℕ}
 use lib.ListN.{length}
-use Rattle.refusal.specs.Answers.{statusOf}
+use Rattle.refusal.specs.Answers.{status_of}
 use Rattle.refusal.proofs.Judged.{verdict, nothing}
-use Rattle.batch.specs.Pairs.{pairsOf}
-use Rattle.batch.specs.Calls.{Lent, lent, Batch, batch, roomOf}
+use Rattle.batch.specs.Pairs.{pairs_of}
+use Rattle.batch.specs.Calls.{Lent, lent, Batch, batch, room_of}
 use Rattle.batch.proofs.Whole.{all-good, all-inside}
-use Rattle.groups.specs.Groups.{groupRefusals}
+use Rattle.groups.specs.Groups.{group_refusals}
 use Rattle.grouping.proofs.Sizes.{total-fits}
 use Rattle.groups.proofs.Whole.{turned_down, batch-passed, sizes-passed, carried-out}
 use borrow.Author.Rules.{rules}
@@ -24,21 +24,21 @@ entry c = c.before.before.before.before.before.before.before.before.before
 abbrev handed : tie.After-groups-fault → Batch
 handed c =
     let a = (entry c).args in
-    batch a.code a.rule a.limit a.scale a.values.now (pairsOf a.pairs.now)
+    batch a.code a.rule a.limit a.scale a.values.now (pairs_of a.pairs.now)
     (lent a.bits.now a.counts.now a.rounds.now a.firsts.now a.work.now)
 
 abbrev sizes : tie.After-groups-fault → List ℕ
 sizes c = (entry c).args.sizes.now
 
-found : (c : tie.After-groups-fault) → verdict (groupRefusals (handed c) (sizes c)) ≡ statusOf c.groups-fault.result
+found : (c : tie.After-groups-fault) → verdict (group_refusals (handed c) (sizes c)) ≡ status_of c.groups-fault.result
 found c = sym c.groups-fault.ensures
 
 -- nothing
 abbrev tested : tie.After-enum-told → tie.After-groups-fault
 tested c = c.before.before
 
-good : (c : tie.After-enum-told) → verdict (groupRefusals (handed (tested c)) (sizes (tested c))) ≡ nothing
-good c = found (tested c) ∙ ap statusOf c.enum_told.given.1
+good : (c : tie.After-enum-told) → verdict (group_refusals (handed (tested c)) (sizes (tested c))) ≡ nothing
+good c = found (tested c) ∙ ap status_of c.enum_told.given.1
 
 -- the batch has been called, and what it wrote is handed on
 abbrev told : tie.After-decode-batch → tie.After-enum-told
@@ -63,7 +63,7 @@ enum-known-r c = search rules
 returns : tie.Need-returns
 returns c =
     let t = c.before.before.before in
-    turned_down (handed t) (sizes t) _ (found t ∙ ap statusOf c.before.r.given.1)
+    turned_down (handed t) (sizes t) _ (found t ∙ ap status_of c.before.r.given.1)
 
 enum_told : tie.Need-enum-told
 enum_told c = search rules
@@ -77,8 +77,8 @@ deliver-groups-requires c κs =
     let t = tested (told d) in
     let b = handed t in
     let v = batch-passed b (sizes t) (good (told d)) in
-    let g = all-good b.code b.rule (length b.values) b.pairs (roomOf b.memory) v in
-    let inside = all-inside b.code b.rule (length b.values) b.pairs (roomOf b.memory) v in
+    let g = all-good b.code b.rule (length b.values) b.pairs (room_of b.memory) v in
+    let inside = all-inside b.code b.rule (length b.values) b.pairs (room_of b.memory) v in
     let kept = d.decode-batch.kept.1.1.1.1.1.1 in
     (inside, (g.few, ((kept.1.0 ∙ g.counts, kept.0 ∙ g.bits), total-fits (sizes t) (length b.pairs) (sizes-passed b (sizes t) (good (told d))))))
 

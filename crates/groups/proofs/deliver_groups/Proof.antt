@@ -6,12 +6,12 @@ use Prim.Native.Nat.{ℕ, ◌*◌, ◌/◌, ◌≤◌}
 use native.Mathlib.Omega.{arith}
 use lib.ListN.{length, take, drop, replicate}
 use lib.Seq.{length-take-le, length_front, take_at}
-use Rattle.batch.specs.Codes.{sizeK}
-use Rattle.batch.specs.Pairs.{pairsOf, framesOf}
+use Rattle.batch.specs.Codes.{size_k}
+use Rattle.batch.specs.Pairs.{pairs_of, frames_of}
 use Rattle.batch.proofs.Pairs.{pairs-length}
-use Rattle.clean_frames.specs.CleanFrames.{cleanOf}
+use Rattle.clean_frames.specs.CleanFrames.{clean_of}
 use Rattle.grouping.specs.Grouping.{delivered}
-use Rattle.groups.specs.Groups.{cleanFrom}
+use Rattle.groups.specs.Groups.{clean_from}
 use borrow.Author.Rules.{rules}
 use Rattle.groups.proofs.deliver_groups.Statement.{statement}
 use Rattle.groups.proofs.deliver_groups.Tie as tie
@@ -28,7 +28,7 @@ n c = length (start c).args.pairs.now / 2
 abbrev array : List Bool
 array = replicate 24 false
 
-many : (c : tie.After-clean-list-arg) → length (pairsOf (start c).args.pairs.now) ≡ n c
+many : (c : tie.After-clean-list-arg) → length (pairs_of (start c).args.pairs.now) ≡ n c
 many c = pairs-length (start c).args.pairs.now
 
 few : (c : tie.After-clean-list-arg) → n c ≤ 24
@@ -55,11 +55,11 @@ back c = take_at (list c) (drop (n (lent c)) array) (n (lent c)) (list_length c)
 
 -- whether each frame is clean
 abbrev ok : tie.After-clean-list → ℕ → Bool
-ok c = let a = (start (lent c)).args in cleanOf a.code (framesOf a.values.now (pairsOf a.pairs.now)) a.counts.now a.bits.now
+ok c = let a = (start (lent c)).args in clean_of a.code (frames_of a.values.now (pairs_of a.pairs.now)) a.counts.now a.bits.now
 
-list-is : (c : tie.After-clean-list) → list c ≡ cleanFrom (ok c) 0 (length (pairsOf (start (lent c)).args.pairs.now))
+list-is : (c : tie.After-clean-list) → list c ≡ clean_from (ok c) 0 (length (pairs_of (start (lent c)).args.pairs.now))
 list-is c =
-    ◌∙◌ {b = cleanFrom (ok c) 0 (length (take (n (lent c)) array))} c.clean-list.ensures (ap (cleanFrom (ok c) 0) (front (lent c) ∙ sym (many (lent c))))
+    ◌∙◌ {b = clean_from (ok c) 0 (length (take (n (lent c)) array))} c.clean-list.ensures (ap (clean_from (ok c) 0) (front (lent c) ∙ sym (many (lent c))))
 
 abbrev made : tie.After-message-bits → tie.After-clean-list
 made c = c.before.before
@@ -106,7 +106,7 @@ returns c =
     let a = (start (lent d)).args in
     done.close-groups.ensures
     ∙ ap (λ (k : ℕ). delivered k a.sizes.now (take (n (lent d)) (filled d)) a.bits.now) m.message-bits.ensures
-    ∙ ap (λ (l : List Bool). delivered (sizeK a.code) a.sizes.now l a.bits.now) (back d ∙ list-is d)
+    ∙ ap (λ (l : List Bool). delivered (size_k a.code) a.sizes.now l a.bits.now) (back d ∙ list-is d)
 
 pub deliver-groups-spec : {M : Type 1} → statement M
 deliver-groups-spec =

@@ -4,12 +4,12 @@ use mathlib.Core.List.{List}
 use Prim.Native.Nat.{ℕ}
 use lib.ListN.{length}
 use Rattle.refusal.specs.Outcome.{Condition}
-use Rattle.refusal.specs.Answers.{statusOf}
+use Rattle.refusal.specs.Answers.{status_of}
 use Rattle.refusal.proofs.Judged.{verdict}
-use Rattle.batch.specs.Pairs.{pairsOf}
-use Rattle.batch.specs.Calls.{refusalsOf}
+use Rattle.batch.specs.Pairs.{pairs_of}
+use Rattle.batch.specs.Calls.{refusals_of}
 use Rattle.batch.proofs.Pairs.{pairs-length}
-use Rattle.grouping.specs.Grouping.{sizeRefusals}
+use Rattle.grouping.specs.Grouping.{size_refusals}
 use Rattle.groups.proofs.Whole.{head-refused, head_passed}
 use borrow.Author.Rules.{rules}
 use Rattle.groups.proofs.groups_fault.Statement.{statement}
@@ -22,12 +22,12 @@ entry c = c.before.before.before
 
 -- the batch's tests, and how many frames there are
 abbrev head : tie.After-batch-fault → List Condition
-head c = let a = (entry c).args in refusalsOf a.code a.rule a.values (pairsOf a.pairs.now) a.room
+head c = let a = (entry c).args in refusals_of a.code a.rule a.values (pairs_of a.pairs.now) a.room
 
 abbrev frames : tie.After-batch-fault → ℕ
-frames c = length (pairsOf (entry c).args.pairs.now)
+frames c = length (pairs_of (entry c).args.pairs.now)
 
-found : (c : tie.After-batch-fault) → verdict (head c) ≡ statusOf c.batch-fault.result
+found : (c : tie.After-batch-fault) → verdict (head c) ≡ status_of c.batch-fault.result
 found c = sym c.batch-fault.ensures
 
 -- ---- the needs
@@ -41,7 +41,7 @@ enum-known-r c = search rules
 returns : tie.Need-returns
 returns c =
     let t = c.before.before.before in
-    sym (head-refused (head t) (frames t) (entry t).args.sizes.now _ (found t ∙ ap statusOf c.before.r.given.1))
+    sym (head-refused (head t) (frames t) (entry t).args.sizes.now _ (found t ∙ ap status_of c.before.r.given.1))
 
 enum_told : tie.Need-enum-told
 enum_told c = search rules
@@ -55,8 +55,8 @@ returns-2 c =
     let t = told.before.before in
     let a = (entry t).args in
     c.sizes-fault.ensures
-    ∙ ap (λ (n : ℕ). verdict (sizeRefusals n a.sizes.now)) (sym (pairs-length a.pairs.now))
-    ∙ sym (head_passed (head t) (frames t) a.sizes.now (found t ∙ ap statusOf told.enum_told.given.1))
+    ∙ ap (λ (n : ℕ). verdict (size_refusals n a.sizes.now)) (sym (pairs-length a.pairs.now))
+    ∙ sym (head_passed (head t) (frames t) a.sizes.now (found t ∙ ap status_of told.enum_told.given.1))
 
 pub groups-fault-spec : {M : Type 1} → statement M
 groups-fault-spec = tie.close (tie.spec batch-fault-requires enum-known-r returns enum_told sizes-fault-requires returns-2)

@@ -5,16 +5,16 @@ use Prim.Native.Nat.{ℕ, ◌≤◌}
 use native.Mathlib.Omega.{arith}
 use lib.ListN.{length}
 use lib.Seq.{length-take-le}
-use Rattle.batch.specs.Pairs.{pairsOf}
+use Rattle.batch.specs.Pairs.{pairs_of}
 use Rattle.batch.specs.Calls.{refusals}
 use Rattle.batch_input.specs.Input.{code_of}
-use Rattle.batch_input.specs.Handed.{batchIn}
+use Rattle.batch_input.specs.Handed.{batch_in}
 use Rattle.batch_input.proofs.Wellformed.{wellformed}
 use Rattle.batch_figures.specs.Results.{added}
-use Rattle.decoded_input.specs.Fronts.{sizesOf, decodedOf, Fronts}
+use Rattle.decoded_input.specs.Fronts.{sizes_of, decoded_of, Fronts}
 use Rattle.decoded_input.proofs.Answers.{judged-turned}
-use Rattle.decoded_input.proofs.Handed.{sizes-given, front, Accepted, accepted-input}
-use Rattle.input_figures.proofs.Added.{refused-input, added-input, results-are}
+use Rattle.decoded_input.proofs.Handed.{sizes_given, front, Accepted, accepted_input}
+use Rattle.input_figures.proofs.Added.{refused-input, added-input, results_are}
 use borrow.Author.Rules.{rules}
 use Rattle.input_figures.proofs.add_frames.Statement.{statement}
 use Rattle.input_figures.proofs.add_frames.Tie as tie
@@ -55,10 +55,10 @@ abbrev size : tie.After-n → ℕ
 size k = k.n.given.0.1.0
 
 known : (k : tie.After-n) → Accepted (input (called k)) (N k) (size k)
-known k = accepted-input (input (called k)) (N k) (size k) (sym (ap decodedOf k.n.given.1) ∙ (called k).decode-fronts.ensures.0)
+known k = accepted_input (input (called k)) (N k) (size k) (sym (ap decoded_of k.n.given.1) ∙ (called k).decode-fronts.ensures.0)
 
 wrote : (k : tie.After-n) → let d = called k in Fronts (input d) (bits d) (counts d) (rounds d) (firsts d)
-wrote k = (called k).decode-fronts.ensures.1 (ap decodedOf k.n.given.1 ∙ sizes-given (known k).frames (known k).bits)
+wrote k = (called k).decode-fronts.ensures.1 (ap decoded_of k.n.given.1 ∙ sizes_given (known k).frames (known k).bits)
 
 -- they lie within the arrays
 bits-room : (k : tie.After-n) → size k ≤ length (bits (called k))
@@ -151,7 +151,7 @@ returns c =
     let d = r.before.before.before.before.before.before in
     let s = input d in
     let e = entry (arrays d) in
-    let number = judged-turned (refusals (batchIn s)) (sizesOf s) _ (sym (ap decodedOf r.r.given.1) ∙ d.decode-fronts.ensures.0) in
+    let number = judged-turned (refusals (batch_in s)) (sizes_of s) _ (sym (ap decoded_of r.r.given.1) ∙ d.decode-fronts.ensures.0) in
     refused-input e.args.total s e.pre.0 _ number
 
 returns-2 : tie.Need-returns-2
@@ -162,10 +162,10 @@ returns-2 c =
     let e = entry (arrays d) in
     let good = known k in
     let w = wrote k in
-    let pairs = ap (λ (ns : List ℕ). pairsOf ns) (e.pre.1.1 ∙ good.all) in
+    let pairs = ap (λ (ns : List ℕ). pairs_of ns) (e.pre.1.1 ∙ good.all) in
     let same =
-    results-are (code_of s) e.pre.1.0 pairs (front (bits d) good.bits w.itsBits) (front (counts d) good.frames w.itsCounts)
-    (front (rounds d) good.frames w.itsRounds)
+    results_are (code_of s) e.pre.1.0 pairs (front (bits d) good.bits w.its_bits) (front (counts d) good.frames w.its_counts)
+    (front (rounds d) good.frames w.its_rounds)
     in
     c.add-batch.ensures ∙ ap (added e.args.total) same ∙ added-input e.args.total s e.pre.0 good.agreed
 

@@ -1,6 +1,6 @@
 -- `ldpc::count_low` meets its contract: the rows count what the checks count. Assumes nothing.
 use mathlib.Core.Path.{refl, ap, ◌∙◌}
-use Rattle.tanner.specs.Masked.{countMasked}
+use Rattle.tanner.specs.Masked.{count_masked}
 use Rattle.ldpc.specs.Rows.{sevens}
 use Rattle.code174.specs.Tables.{nm}
 use Rattle.ldpc.proofs.Sevens.{behind-counted}
@@ -21,7 +21,7 @@ returns : tie.Need-returns
 returns c =
     let word = c.before.before in
     let s = word.before.before in
-    c.count_word.ensures ∙ ap (countMasked 1 (sevens 83 nm)) word.padded-word.ensures
+    c.count_word.ensures ∙ ap (count_masked 1 (sevens 83 nm)) word.padded-word.ensures
     ∙ behind-counted 1 _ (rw s.requires refl) refl
 
 pub count-low-spec : {M : Type 1} → statement M

@@ -4,18 +4,18 @@ use mathlib.Core.Logic.{⊎_elim}
 use Prim.Native.Nat.{◌+◌, ◌-◌, ◌*◌, ◌≤◌}
 use native.Mathlib.Omega.{arith}
 use lib.ListN.{drop}
-use Rattle.tanner.specs.Masked.{countMasked}
+use Rattle.tanner.specs.Masked.{count_masked}
 use Rattle.tanner.proofs.Steps.{count-more, count_same, count-done}
 use Rattle.lists.proofs.Below.{below-part}
 use Rattle.ldpc.specs.Rows.{sevens}
-use Rattle.ldpc.proofs.Sevens.{rows_more, rows-done, rows-after, rows_few}
+use Rattle.ldpc.proofs.Sevens.{rows_more, rows_done, rows-after, rows_few}
 use borrow.Author.Rules.{rules}
 use Rattle.ldpc.proofs.count_rows.Statement.{statement}
 use Rattle.ldpc.proofs.count_rows.Tie as tie
 
 abbrev invariant-loop : tie.invariant-loop
 invariant-loop first end before table padded mask count₀ a₀ c₀ count a c =
-    (c ≤ end) × (a ≡ c * 7) × (count ≤ c) × (count + countMasked mask (sevens (end - c) (drop a table)) padded ≡ countMasked mask (sevens end table) padded)
+    (c ≤ end) × (a ≡ c * 7) × (count ≤ c) × (count + count_masked mask (sevens (end - c) (drop a table)) padded ≡ count_masked mask (sevens end table) padded)
 
 abbrev decreases-loop : tie.decreases-loop
 decreases-loop first end before table padded mask count₀ a₀ c₀ count a c = end - c
@@ -73,7 +73,7 @@ returns : tie.Need-returns invariant-loop decreases-loop
 returns c =
     let l = c.before in
     let s = l.before.before.before.args in
-    count-done _ _ _ _ _ (rows-done s.end l.loop.c l.loop.a s.table.now c.loop-test.false) l.loop.invariant.3
+    count-done _ _ _ _ _ (rows_done s.end l.loop.c l.loop.a s.table.now c.loop-test.false) l.loop.invariant.3
 
 pub count-rows-spec : {M : Type 1} → statement M
 count-rows-spec =

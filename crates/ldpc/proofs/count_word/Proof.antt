@@ -1,7 +1,7 @@
 -- `ldpc::count_word` meets its contract: part after part, the count is that of the rows so far. Assumes nothing.
 use mathlib.Core.Path.{refl}
 use Rattle.code174.specs.Tables.{nm}
-use Rattle.tanner.specs.Masked.{countMasked}
+use Rattle.tanner.specs.Masked.{count_masked}
 use Rattle.ldpc.specs.Rows.{sevens}
 use Rattle.ldpc.proofs.Sevens.{nm-whole}
 use borrow.Author.Rules.{rules}
@@ -12,7 +12,7 @@ slice-aggregate-count-rows : tie.Need-slice-aggregate-count-rows
 slice-aggregate-count-rows c = search rules
 
 count-rows-requires : tie.Need-count-rows-requires
-unfolding nm countMasked sevens
+unfolding nm count_masked sevens
 count-rows-requires c κs = (nm-whole _ (search rules), (search rules, refl))
 
 slice-aggregate-count-rows-2 : tie.Need-slice-aggregate-count-rows-2

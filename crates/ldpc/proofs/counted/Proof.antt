@@ -1,6 +1,6 @@
 -- `ldpc::counted` meets its contract: the rows count what the checks count, and no check is counted where the count is 0. Assumes nothing.
 use mathlib.Core.Path.{sym, ap₂, ◌∙◌}
-use Rattle.tanner.proofs.First.{both, zero-none, masked-adds}
+use Rattle.tanner.proofs.First.{both, zero-none, masked_adds}
 use Rattle.ldpc.proofs.Sevens.{behind-counted, behind-first}
 use borrow.Author.Rules.{rules}
 use Rattle.ldpc.proofs.counted.Statement.{statement}
@@ -13,7 +13,7 @@ returns : tie.Need-returns
 returns c =
     let s = c.before.before.before in
     let e = c.before.count_word.ensures ∙ behind-counted s.args.mask s.args.padded.now s.requires.0 s.requires.1 in
-    ap₂ both e (sym (zero-none _ _ (masked-adds _ _) 0 _ (sym e ∙ c.if1.true)))
+    ap₂ both e (sym (zero-none _ _ (masked_adds _ _) 0 _ (sym e ∙ c.if1.true)))
 
 first-word-requires : tie.Need-first-word-requires
 first-word-requires c κs = search rules

@@ -1,7 +1,7 @@
 -- `ldpc::first_low` meets its contract: the first row is the first check. Assumes nothing.
 use mathlib.Core.Path.{refl, ap, ◌∙◌}
 use lib.ListN.{length}
-use Rattle.tanner.specs.Masked.{firstMasked}
+use Rattle.tanner.specs.Masked.{first_masked}
 use Rattle.ldpc.specs.Rows.{sevens}
 use Rattle.code174.specs.Tables.{nm}
 use Rattle.ldpc.proofs.Sevens.{behind-first}
@@ -24,7 +24,7 @@ returns : tie.Need-returns
 returns c =
     let word = c.before.before in
     let s = word.before.before in
-    c.first_word.ensures ∙ ap (firstMasked 1 (sevens 83 nm)) word.padded-word.ensures ∙ behind-first 1 _ (rw s.requires refl) refl
+    c.first_word.ensures ∙ ap (first_masked 1 (sevens 83 nm)) word.padded-word.ensures ∙ behind-first 1 _ (rw s.requires refl) refl
 
 pub first-low-spec : {M : Type 1} → statement M
 first-low-spec = tie.close (tie.spec padded-word-requires slice-aggregate-first-word first-word-requires returns)

@@ -3,19 +3,19 @@ use mathlib.Core.Path.{◌≡◌, refl}
 use Prim.Native.Nat.{◌+◌, ◌-◌, ◌*◌, ◌≤◌}
 use native.Mathlib.Omega.{arith}
 use lib.ListN.{drop}
-use Rattle.tanner.specs.Checks.{firstBy}
-use Rattle.tanner.specs.Masked.{measured, firstMasked}
-use Rattle.tanner.proofs.Steps.{first-here, first-later, first-nowhere}
+use Rattle.tanner.specs.Checks.{first_by}
+use Rattle.tanner.specs.Masked.{measured, first_masked}
+use Rattle.tanner.proofs.Steps.{first-here, first-later, first_nowhere}
 use Rattle.lists.proofs.Below.{below-part}
 use Rattle.ldpc.specs.Rows.{sevens}
-use Rattle.ldpc.proofs.Sevens.{rows_more, rows-done, rows_all}
+use Rattle.ldpc.proofs.Sevens.{rows_more, rows_done, rows_all}
 use borrow.Author.Rules.{rules}
 use Rattle.ldpc.proofs.first_row.Statement.{statement}
 use Rattle.ldpc.proofs.first_row.Tie as tie
 
 abbrev invariant-loop : tie.invariant-loop
 invariant-loop table padded mask c₀ a₀ c a =
-    (c ≤ 83) × (a ≡ c * 7) × (firstBy (measured mask padded) c (sevens (83 - c) (drop a table)) ≡ firstMasked mask (sevens 83 table) padded)
+    (c ≤ 83) × (a ≡ c * 7) × (first_by (measured mask padded) c (sevens (83 - c) (drop a table)) ≡ first_masked mask (sevens 83 table) padded)
 
 abbrev decreases-loop : tie.decreases-loop
 decreases-loop table padded mask c₀ a₀ c a = 83 - c
@@ -68,7 +68,7 @@ loop-again c =
 returns-2 : tie.Need-returns-2 invariant-loop decreases-loop
 returns-2 c =
     let l = c.before in
-    first-nowhere _ _ _ _ _ (rows-done 83 l.loop.c l.loop.a l.before.before.before.args.table.now c.loop-test.false) l.loop.invariant.2
+    first_nowhere _ _ _ _ _ (rows_done 83 l.loop.c l.loop.a l.before.before.before.args.table.now c.loop-test.false) l.loop.invariant.2
 
 pub first-row-spec : {M : Type 1} → statement M
 first-row-spec =

@@ -6,7 +6,7 @@ use native.Mathlib.Omega.{arith}
 use borrow.Author.Tests.{eq-eqb, ne_eqb}
 use lib.ListN.{drop}
 use Rattle.refusal.specs.Outcome.{accepted}
-use Rattle.tanner.specs.Masked.{syndromeMasked}
+use Rattle.tanner.specs.Masked.{syndrome_masked}
 use Rattle.lists.specs.Below.{Below}
 use Rattle.code174.specs.Code174.{checks}
 use Rattle.ldpc.proofs.Counting.{bytes_counted}
@@ -33,7 +33,7 @@ returns-2 c =
     let tested = filled.before in
     let hard = tested.before.before.args.hard.now in
     let bytes : Below 256 hard = λ k h. omega (arith, tested.before.shared-slice-known.given k) in
-    let same = c.counted.ensures ∙ ap (λ (p : List ℕ). syndromeMasked 255 checks (drop 1 p)) filled.padded-word.ensures in
+    let same = c.counted.ensures ∙ ap (λ (p : List ℕ). syndrome_masked 255 checks (drop 1 p)) filled.padded-word.ensures in
     simp (eq-eqb _ _ tested.if1.false) (ap accepted (same ∙ bytes_counted hard bytes))
 
 pub ldpc-count-errors-spec : {M : Type 1} → statement M

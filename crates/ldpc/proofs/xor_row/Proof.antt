@@ -3,15 +3,15 @@ use mathlib.Core.Path.{◌≡◌}
 use Prim.Native.Nat.{◌-◌, ◌≤◌}
 use native.Mathlib.Omega.{arith}
 use lib.ListN.{length, drop}
-use Rattle.tanner.specs.Checks.{xorFrom}
+use Rattle.tanner.specs.Checks.{xor_from}
 use Rattle.lists.specs.Below.{Below}
-use Rattle.tanner.proofs.Steps.{xor-more, xor-done}
+use Rattle.tanner.proofs.Steps.{xor_more, xor-done}
 use borrow.Author.Rules.{rules}
 use Rattle.ldpc.proofs.xor_row.Statement.{statement}
 use Rattle.ldpc.proofs.xor_row.Tie as tie
 
 abbrev invariant-loop : tie.invariant-loop
-invariant-loop row padded x₀ i₀ x i = (i ≤ length row) × (xorFrom x (drop i row) padded ≡ xorFrom 0 row padded)
+invariant-loop row padded x₀ i₀ x i = (i ≤ length row) × (xor_from x (drop i row) padded ≡ xor_from 0 row padded)
 
 abbrev decreases-loop : tie.decreases-loop
 decreases-loop row padded x₀ i₀ x i = length row - i
@@ -36,7 +36,7 @@ loop-less : tie.Need-loop-smaller invariant-loop decreases-loop
 loop-less c = search rules
 
 loop-again : tie.Need-loop-preserved invariant-loop decreases-loop
-loop-again c = (search rules, xor-more _ _ _ _ _ c.before.before.loop-test.true c.before.before.before.loop.invariant.1)
+loop-again c = (search rules, xor_more _ _ _ _ _ c.before.before.loop-test.true c.before.before.before.loop.invariant.1)
 
 returns : tie.Need-returns invariant-loop decreases-loop
 returns c = xor-done _ _ _ _ _ c.loop-test.false c.before.loop.invariant.1

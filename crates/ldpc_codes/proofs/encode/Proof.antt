@@ -4,7 +4,7 @@ use Prim.Native.Nat.{◌≤◌, ◌<◌}
 use native.Mathlib.Omega.{arith}
 use borrow.Author.Tests.{lt-ltb, le-ltb, eq-eqb, ne_eqb}
 use lib.ListN.{length}
-use Rattle.construction.specs.Codes.{blockLength}
+use Rattle.construction.specs.Codes.{block_length}
 use Rattle.staircase.specs.Codes.{code_of}
 use borrow.Author.Rules.{rules}
 use Rattle.ldpc_codes.proofs.encode.Statement.{statement}
@@ -21,7 +21,7 @@ known b = omega (arith, b.before.if1.false)
 bits-right : (c : tie.Else2) → let a = (at_bits c.before).args in length a.message.now ≡ (code_of a.code).k
 bits-right c = c.if2.false ∙ c.before.bits_of.ensures
 
-values-right : (c : tie.Else3) → let a = (at_bits c.before.before.before).args in length a.codeword.now ≡ blockLength (code_of a.code)
+values-right : (c : tie.Else3) → let a = (at_bits c.before.before.before).args in length a.codeword.now ≡ block_length (code_of a.code)
 values-right c = c.if3.false ∙ c.before.values_of.ensures
 
 -- ---- the needs

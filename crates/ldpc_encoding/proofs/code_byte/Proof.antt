@@ -1,6 +1,6 @@
 -- `ldpc_encoding::code_byte` meets its contract: each return is the case of the definition that its tests chose.
 use borrow.Author.Tests.{lt-ltb, le-ltb, eq-eqb, ne_eqb}
-use Rattle.ldpc_encoding.specs.Bytes.{codeByte}
+use Rattle.ldpc_encoding.specs.Bytes.{code_byte}
 use borrow.Author.Rules.{rules}
 use Rattle.ldpc_encoding.proofs.code_byte.Statement.{statement}
 use Rattle.ldpc_encoding.proofs.code_byte.Tie as tie
@@ -9,7 +9,7 @@ shared-slice-read-result : tie.Need-shared-slice-read-result
 shared-slice-read-result c = search rules
 
 returns : tie.Need-returns
-unfolding codeByte
+unfolding code_byte
 returns c = simp (lt-ltb _ _ c.before.if1.true)
 
 shared-slice-read-result-2 : tie.Need-shared-slice-read-result-2
@@ -19,7 +19,7 @@ parity-bits-requires : tie.Need-parity-bits-requires
 parity-bits-requires c κs = search rules
 
 returns-2 : tie.Need-returns-2
-unfolding codeByte
+unfolding code_byte
 returns-2 c =
     let then = c.before.before in
     simp (le-ltb _ _ then.before.if1.false, eq-eqb _ _ then.if2.true, c.parity-bits.ensures)
@@ -28,7 +28,7 @@ parity-bits-requires-2 : tie.Need-parity-bits-requires-2
 parity-bits-requires-2 c κs = search rules
 
 returns-3 : tie.Need-returns-3
-unfolding codeByte
+unfolding code_byte
 returns-3 c =
     let then = c.before in
     simp (le-ltb _ _ then.before.before.if1.false, ne_eqb _ _ then.before.if2.false, eq-eqb _ _ then.if3.true, c.parity-bits2.ensures)
@@ -43,7 +43,7 @@ parity-bits-requires-3 : tie.Need-parity-bits-requires-3
 parity-bits-requires-3 c κs = search rules
 
 returns-4 : tie.Need-returns-4
-unfolding codeByte
+unfolding code_byte
 returns-4 c =
     let else = c.before in
     simp (le-ltb _ _ else.before.before.if1.false, ne_eqb _ _ else.before.if2.false, ne_eqb _ _ else.if3.false) c.parity-bits3.ensures

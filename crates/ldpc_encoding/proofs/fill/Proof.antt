@@ -6,7 +6,7 @@ use native.Mathlib.Omega.{arith}
 use lib.ListN.{length, get_or, set}
 use lib.Seq.{get_or-set_same, get_or-set_other}
 use borrow.Author.Count.{below_more}
-use Rattle.ldpc_encoding.specs.Bytes.{codeByte}
+use Rattle.ldpc_encoding.specs.Bytes.{code_byte}
 use borrow.Author.Rules.{rules}
 use Rattle.ldpc_encoding.proofs.fill.Statement.{statement}
 use Rattle.ldpc_encoding.proofs.fill.Tie as tie
@@ -19,7 +19,7 @@ byte_more f w j v h e t =
 
 abbrev invariant-loop : tie.invariant-loop
 invariant-loop generator message codeword₀ j₀ codeword j =
-    (j ≤ 22) × (length codeword ≡ length codeword₀) × ((k : ℕ) → k < j → get_or codeword k 0 ≡ codeByte generator message k)
+    (j ≤ 22) × (length codeword ≡ length codeword₀) × ((k : ℕ) → k < j → get_or codeword k 0 ≡ code_byte generator message k)
 
 abbrev decreases-loop : tie.decreases-loop
 decreases-loop generator message codeword₀ j₀ codeword j = 22 - j
@@ -45,7 +45,7 @@ loop-again c =
     let args = loop.before.before.before.before.args in (
       search rules,
       search rules,
-      byte_more (codeByte args.generator.now args.message.now) loop.loop.codeword loop.loop.j
+      byte_more (code_byte args.generator.now args.message.now) loop.loop.codeword loop.loop.j
           c.code-byte.result (search rules) c.code-byte.ensures loop.loop.invariant.2,
     )
 

@@ -5,7 +5,7 @@ use borrow.Author.Tests.{eq-eqb, ne_eqb}
 use lib.Seq.{ext_get_or}
 use Rattle.bits.proofs.Digits.{Bytes}
 use Rattle.ldpc_encoding.specs.Tables.{generator}
-use Rattle.ldpc_encoding.proofs.Codeword.{codeword-at, codeword-length}
+use Rattle.ldpc_encoding.proofs.Codeword.{codeword-at, codeword_length}
 use borrow.Author.Rules.{rules}
 use Rattle.ldpc_encoding.proofs.ldpc_encode.Statement.{statement}
 use Rattle.ldpc_encoding.proofs.ldpc_encode.Tie as tie
@@ -53,7 +53,7 @@ returns-4 c =
     let written = filled.fill.ensures in (
       simp (eq-eqb _ _ twelve, eq-eqb _ _ slack, eq-eqb _ _ size),
       simp (eq-eqb _ _ twelve, eq-eqb _ _ slack, eq-eqb _ _ size)
-          (ext_get_or 0 _ _ (written.0 ∙ sym (codeword-length message))
+          (ext_get_or 0 _ _ (written.0 ∙ sym (codeword_length message))
           (λ i h. written.1 i (omega (arith, written.0)) ∙ sym (codeword-at message twelve bytes slack i (omega (arith, written.0))))),
     )
 

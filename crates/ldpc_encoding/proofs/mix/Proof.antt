@@ -3,7 +3,7 @@ use mathlib.Core.Path.{◌≡◌}
 use Prim.Native.Nat.{◌-◌, ◌≤◌}
 use lib.ListN.{length, drop}
 use Rattle.ldpc_encoding.specs.Bytes.{mixed}
-use Rattle.ldpc_encoding.proofs.Parity.{mixed-more, mixed-done}
+use Rattle.ldpc_encoding.proofs.Parity.{mixed_more, mixed-done}
 use borrow.Author.Rules.{rules}
 use Rattle.ldpc_encoding.proofs.mix.Statement.{statement}
 use Rattle.ldpc_encoding.proofs.mix.Tie as tie
@@ -32,7 +32,7 @@ loop-less c = search rules
 loop-again : tie.Need-loop-preserved invariant-loop decreases-loop
 loop-again c =
     let turn = c.before.before in
-    (search rules, mixed-more _ _ _ _ _ turn.loop-test.true turn.before.before.requires turn.before.loop.invariant.1)
+    (search rules, mixed_more _ _ _ _ _ turn.loop-test.true turn.before.before.requires turn.before.loop.invariant.1)
 
 returns : tie.Need-returns invariant-loop decreases-loop
 returns c = mixed-done _ _ _ _ _ c.loop-test.false c.before.loop.invariant.1

@@ -3,7 +3,7 @@ use mathlib.Core.Path.{◌≡◌, refl, ap, ◌∙◌}
 use Prim.Native.Nat.{◌-◌, ◌≤◌}
 use native.Mathlib.Omega.{arith}
 use Rattle.ldpc_encoding.specs.Bytes.{gathered}
-use Rattle.ldpc_encoding.proofs.Gather.{gathered-more}
+use Rattle.ldpc_encoding.proofs.Gather.{gathered_more}
 use borrow.Author.Rules.{rules}
 use Rattle.ldpc_encoding.proofs.parity_bits.Statement.{statement}
 use Rattle.ldpc_encoding.proofs.parity_bits.Tie as tie
@@ -51,7 +51,7 @@ loop-less c = search rules
 loop-again : tie.Need-loop-preserved invariant-loop decreases-loop
 loop-again c =
     let gathered-so-far = c.before.before.before.before.loop.invariant.1 in
-    (search rules, gathered-more _ _ _ _ _ _ _ gathered-so-far c.before.mix.ensures c.parity8.ensures)
+    (search rules, gathered_more _ _ _ _ _ _ _ gathered-so-far c.before.mix.ensures c.parity8.ensures)
 
 returns : tie.Need-returns invariant-loop decreases-loop
 returns c =

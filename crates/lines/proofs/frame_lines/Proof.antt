@@ -9,27 +9,27 @@ use native.Mathlib.Omega.{arith}
 use lib.Ieee.{Float}
 use lib.ListN.{length, get_or, take, drop, length-append}
 use Rattle.text.proofs.Put.{Left, left-all, left_less, left-none}
-use Rattle.batch.specs.Codes.{sizeK}
-use Rattle.batch.specs.Pairs.{pairsOf, framesOf}
+use Rattle.batch.specs.Codes.{size_k}
+use Rattle.batch.specs.Pairs.{pairs_of, frames_of}
 use Rattle.batch.specs.Calls.{Lent, lent}
 use Rattle.batch.proofs.Frames.{place-fits}
-use Rattle.clean_frames.specs.CleanFrames.{cleanOf}
+use Rattle.clean_frames.specs.CleanFrames.{clean_of}
 use Rattle.clean_frames.proofs.FrameAt.{bits_at}
-use Rattle.one_line.specs.Line.{frameLine}
+use Rattle.one_line.specs.Line.{frame_line}
 use Rattle.lines.specs.Lines.{line_at, lines_from}
-use Rattle.lines.proofs.Lines.{lines_more, lines_none, line-short, lines-short}
+use Rattle.lines.proofs.Lines.{lines_more, lines_none, line_short, lines_short}
 use borrow.Author.Rules.{rules}
 use Rattle.lines.proofs.frame_lines.Statement.{statement}
 use Rattle.lines.proofs.frame_lines.Tie as tie
 
 abbrev invariant-loop : tie.invariant-loop
 invariant-loop out₀ at code values pairs bits counts rounds firsts k next₀ from₀ j₀ out next from j =
-    let n = length (pairsOf pairs) in
-    let line = line_at code (framesOf values (pairsOf pairs)) (lent bits counts rounds firsts []) in
+    let n = length (pairs_of pairs) in
+    let line = line_at code (frames_of values (pairs_of pairs)) (lent bits counts rounds firsts []) in
     (j ≤ n) × (from ≡ j * k) × Left out₀ at (lines_from line 0 n) out next (lines_from line j (n - j))
 
 abbrev decreases-loop : tie.decreases-loop
-decreases-loop out₀ at code values pairs bits counts rounds firsts k next₀ from₀ j₀ out next from j = length (pairsOf pairs) - j
+decreases-loop out₀ at code values pairs bits counts rounds firsts k next₀ from₀ j₀ out next from j = length (pairs_of pairs) - j
 
 -- ---- places of the walk
 
@@ -46,10 +46,10 @@ abbrev start : Loop → tie.Start invariant-loop decreases-loop
 start l = (sized l).before.before.before.before.before.before.before.before
 
 abbrev many : Loop → ℕ
-many l = length (pairsOf (start l).args.pairs.now)
+many l = length (pairs_of (start l).args.pairs.now)
 
 abbrev frames : Loop → List (List Float)
-frames l = framesOf (start l).args.values.now (pairsOf (start l).args.pairs.now)
+frames l = frames_of (start l).args.values.now (pairs_of (start l).args.pairs.now)
 
 abbrev written : Loop → Lent
 written l = let a = (start l).args in lent a.bits.now a.counts.now a.rounds.now a.firsts.now []
@@ -60,7 +60,7 @@ line l = line_at (start l).args.code (frames l) (written l)
 -- the whole text has room
 room : (l : Loop) → (start l).args.at + length (lines_from (line l) 0 (many l)) ≤ length (start l).args.out.now
 room l =
-    omega (arith, lines-short (line l) (line-short (start l).args.code (frames l) (written l)) 0 (many l), (start l).pre.1.1.1.1)
+    omega (arith, lines_short (line l) (line_short (start l).args.code (frames l) (written l)) 0 (many l), (start l).pre.1.1.1.1)
 
 -- in a turn: there is a frame at place j, its bits lie within all, and its line has room
 record Turn (l : Loop) : Type 0 where
@@ -83,7 +83,7 @@ turn c =
     let p = (start l).requires in
     let k = (sized l).message-bits.result in
     let left = left_here c (place_at c) in
-    let bits : many l * k ≡ many l * sizeK (start l).args.code = ap (λ (x : ℕ). many l * x) (sized l).message-bits.ensures in
+    let bits : many l * k ≡ many l * size_k (start l).args.code = ap (λ (x : ℕ). many l * x) (sized l).message-bits.ensures in
     record {
       place = place_at c;
       front = omega (arith, l.loop.invariant.1, p.1.1.0.1, bits, place-fits l.loop.j (many l) k (place_at c));
@@ -142,17 +142,17 @@ shared-slice-read-frame-line-3 c =
     omega (arith, place_at i, (start i.before).pre.1.1.1.0.1)
 
 -- the line of a frame, as it is written: its bits begin at `from`
-line-is : (code : ℕ) (fs : List (List Float)) (l : Lent) (j from k : ℕ) (clean : Bool) → from ≡ j * k → k ≡ sizeK code
-    → clean ≡ cleanOf code fs l.counts l.bits j
-    → frameLine j (get_or l.counts j 0) (get_or l.rounds j 0) clean (take (from + k - from) (drop from l.bits)) (get_or l.firsts j 0) ≡ line_at code fs l j
+line-is : (code : ℕ) (fs : List (List Float)) (l : Lent) (j from k : ℕ) (clean : Bool) → from ≡ j * k → k ≡ size_k code
+    → clean ≡ clean_of code fs l.counts l.bits j
+    → frame_line j (get_or l.counts j 0) (get_or l.rounds j 0) clean (take (from + k - from) (drop from l.bits)) (get_or l.firsts j 0) ≡ line_at code fs l j
 line-is code fs l j from k clean e s c =
     rw (e, c)
-    (ap (λ (b : List ℕ). frameLine j (get_or l.counts j 0) (get_or l.rounds j 0) (cleanOf code fs l.counts l.bits j) b (get_or l.firsts j 0))
-    (bits_at l.bits j k (sizeK code) s))
+    (ap (λ (b : List ℕ). frame_line j (get_or l.counts j 0) (get_or l.rounds j 0) (clean_of code fs l.counts l.bits j) b (get_or l.firsts j 0))
+    (bits_at l.bits j k (size_k code) s))
 
 -- the line that is written is that of the frame at place j
 same_line : (c : tie.After-clean-at invariant-loop decreases-loop) → let l = c.before.before in let a = (start l).args in let j = l.loop.j in
-    frameLine j (get_or a.counts.now j 0) (get_or a.rounds.now j 0) c.clean_at.result
+    frame_line j (get_or a.counts.now j 0) (get_or a.rounds.now j 0) c.clean_at.result
     (take (l.loop.from + (sized l).message-bits.result - l.loop.from) (drop l.loop.from a.bits.now)) (get_or a.firsts.now j 0)
     ≡ line l j
 same_line c =

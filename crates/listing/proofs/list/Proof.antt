@@ -3,19 +3,19 @@ use mathlib.Core.Path.{◌≡◌, sym, ◌∙◌}
 use Prim.Native.Nat.{ℕ, ◌+◌, ◌≤◌}
 use native.Mathlib.Omega.{arith}
 use lib.ListN.{length}
-use Rattle.text.specs.Text.{refusalLine}
-use Rattle.text.proofs.Lengths.{refusal-short}
-use Rattle.listing.specs.Listing.{listingOf}
+use Rattle.text.specs.Text.{refusal_line}
+use Rattle.text.proofs.Lengths.{refusal_short}
+use Rattle.listing.specs.Listing.{listing_of}
 use borrow.Author.Rules.{rules}
 use Rattle.listing.proofs.list.Statement.{statement}
 use Rattle.listing.proofs.list.Tie as tie
 
 -- a refusal's line, whichever it is, fits into the buffer
-fits : (number room : ℕ) → 4096 ≤ room → 0 + length (refusalLine number) ≤ room
-fits number room h = omega (arith, refusal-short number)
+fits : (number room : ℕ) → 4096 ≤ room → 0 + length (refusal_line number) ≤ room
+fits number room h = omega (arith, refusal_short number)
 
-short : (number end : ℕ) → end ≡ 0 + length (refusalLine number) → end ≤ 4096
-short number end e = omega (arith, refusal-short number)
+short : (number end : ℕ) → end ≡ 0 + length (refusal_line number) → end ≤ 4096
+short number end e = omega (arith, refusal_short number)
 
 is-malformed-requires : tie.Need-is-malformed-requires
 is-malformed-requires c κs = search rules
@@ -27,7 +27,7 @@ same_length : tie.Need-same-length
 same_length c = search rules
 
 returns : tie.Need-returns
-unfolding listingOf
+unfolding listing_of
 returns c =
     let done = c.before.before in
     let test = done.before.before in

@@ -5,17 +5,17 @@ use Prim.Native.Nat.{ℕ, ◌*◌, ◌≤◌}
 use native.Mathlib.Omega.{arith}
 use lib.ListN.{length}
 use lib.Seq.{length-take-le}
-use Rattle.text.specs.Text.{refusalLine}
-use Rattle.text.proofs.Lengths.{refusal-short}
-use Rattle.batch.specs.Codes.{sizeK}
-use Rattle.batch.specs.Pairs.{pairsOf}
+use Rattle.text.specs.Text.{refusal_line}
+use Rattle.text.proofs.Lengths.{refusal_short}
+use Rattle.batch.specs.Codes.{size_k}
+use Rattle.batch.specs.Pairs.{pairs_of}
 use Rattle.batch.specs.Calls.{refusals}
-use Rattle.batch_input.specs.Input.{code_of, pairNumbers}
-use Rattle.batch_input.specs.Handed.{batchIn}
+use Rattle.batch_input.specs.Input.{code_of, pair_numbers}
+use Rattle.batch_input.specs.Handed.{batch_in}
 use Rattle.batch_input.proofs.Wellformed.{wellformed}
-use Rattle.decoded_input.specs.Fronts.{sizesOf, decodedOf, Fronts}
+use Rattle.decoded_input.specs.Fronts.{sizes_of, decoded_of, Fronts}
 use Rattle.decoded_input.proofs.Answers.{judged-turned}
-use Rattle.decoded_input.proofs.Handed.{sizes-given, front, Accepted, accepted-input}
+use Rattle.decoded_input.proofs.Handed.{sizes_given, front, Accepted, accepted_input}
 use Rattle.listing.proofs.Listing.{refused-line, accepted-short, fronts-text}
 use borrow.Author.Rules.{rules}
 use Rattle.listing.proofs.list_frames.Statement.{statement}
@@ -62,17 +62,17 @@ abbrev size : tie.After-n → ℕ
 size k = k.n.given.0.1.0
 
 known : (k : tie.After-n) → Accepted (input (called k)) (N k) (size k)
-known k = accepted-input (input (called k)) (N k) (size k) (sym (ap decodedOf k.n.given.1) ∙ (called k).decode-fronts.ensures.0)
+known k = accepted_input (input (called k)) (N k) (size k) (sym (ap decoded_of k.n.given.1) ∙ (called k).decode-fronts.ensures.0)
 
 wrote : (k : tie.After-n) → let d = called k in Fronts (input d) (bits d) (counts d) (rounds d) (firsts d)
-wrote k = (called k).decode-fronts.ensures.1 (ap decodedOf k.n.given.1 ∙ sizes-given (known k).frames (known k).bits)
+wrote k = (called k).decode-fronts.ensures.1 (ap decoded_of k.n.given.1 ∙ sizes_given (known k).frames (known k).bits)
 
 -- the pairs handed over are all pairs
-pairs-all : (k : tie.After-n) → (entry (arrays (called k))).args.pairs.now ≡ pairNumbers (input (called k))
+pairs-all : (k : tie.After-n) → (entry (arrays (called k))).args.pairs.now ≡ pair_numbers (input (called k))
 pairs-all k = (entry (arrays (called k))).requires.1.1.0 ∙ (known k).all
 
-pairs-same : (k : tie.After-n) → pairsOf (entry (arrays (called k))).args.pairs.now ≡ pairsOf (pairNumbers (input (called k)))
-pairs-same k = ap (λ (ns : List ℕ). pairsOf ns) (pairs-all k)
+pairs-same : (k : tie.After-n) → pairs_of (entry (arrays (called k))).args.pairs.now ≡ pairs_of (pair_numbers (input (called k)))
+pairs-same k = ap (λ (ns : List ℕ). pairs_of ns) (pairs-all k)
 
 -- they lie within the arrays
 bits-room : (k : tie.After-n) → size k ≤ length (bits (called k))
@@ -139,7 +139,7 @@ cast-refusal-line c = search rules
 refusal-line-requires : tie.Need-refusal-line-requires
 refusal-line-requires c κs =
     let d = turned c.before.before.before in
-    omega (arith, refusal-short c.number.result, (entry (arrays d)).requires.1.1.1)
+    omega (arith, refusal_short c.number.result, (entry (arrays d)).requires.1.1.1)
 
 enum-known-n : tie.Need-enum-known-n
 enum-known-n c = search rules
@@ -175,9 +175,9 @@ write-frames-requires c κs =
     let p = (entry (arrays d)).requires in
     let good = known k in
     let head = (wellformed (input d) p.0).head in
-    let n : N k ≡ length (pairsOf (pairNumbers (input d))) = good.frames ∙ sym good.many in
-    let bytes : size k ≡ length (pairsOf (pairNumbers (input d))) * sizeK (code_of (input d)) =
-    good.bits ∙ ap (λ (i : ℕ). i * sizeK (code_of (input d))) (sym good.many) in
+    let n : N k ≡ length (pairs_of (pair_numbers (input d))) = good.frames ∙ sym good.many in
+    let bytes : size k ≡ length (pairs_of (pair_numbers (input d))) * size_k (code_of (input d)) =
+    good.bits ∙ ap (λ (i : ℕ). i * size_k (code_of (input d))) (sym good.many) in
     rw (p.1.0, pairs-same k) (
       (head, sym good.many),
       (
@@ -203,9 +203,9 @@ returns c =
     let d = turned r in
     let s = input d in
     let shown = done.refusal-line.ensures in
-    let number = judged-turned (refusals (batchIn s)) (sizesOf s) _ (sym (ap decodedOf r.r.given.1) ∙ d.decode-fronts.ensures.0) in
-    let line = ap refusalLine named.number.ensures ∙ refused-line s (entry (arrays d)).requires.0 _ number in
-    (rw line at shown, omega (arith, shown.end, refusal-short named.number.result))
+    let number = judged-turned (refusals (batch_in s)) (sizes_of s) _ (sym (ap decoded_of r.r.given.1) ∙ d.decode-fronts.ensures.0) in
+    let line = ap refusal_line named.number.ensures ∙ refused-line s (entry (arrays d)).requires.0 _ number in
+    (rw line at shown, omega (arith, shown.end, refusal_short named.number.result))
 
 same-length-2 : tie.Need-same-length-2
 same-length-2 c = search rules
@@ -219,8 +219,8 @@ returns-2 c =
     let w = wrote k in
     let good = known k in
     let text =
-    fronts-text (input d) p.0 good.agreed p.1.0 (pairs-all k) (front (bits d) good.bits w.itsBits)
-    (front (counts d) good.frames w.itsCounts) (front (rounds d) good.frames w.itsRounds) (front (firsts d) good.frames w.itsFirsts)
+    fronts-text (input d) p.0 good.agreed p.1.0 (pairs-all k) (front (bits d) good.bits w.its_bits)
+    (front (counts d) good.frames w.its_counts) (front (rounds d) good.frames w.its_rounds) (front (firsts d) good.frames w.its_firsts)
     in
     let shown = rw text at done.write-frames.ensures in
     (shown, omega (arith, shown.end, accepted-short (input d) p.0 good.agreed))

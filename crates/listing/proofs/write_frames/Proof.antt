@@ -5,11 +5,11 @@ use Prim.Native.Nat.{ℕ, ◌+◌, ◌*◌, ◌≤◌}
 use native.Mathlib.Omega.{arith}
 use lib.ListN.{length}
 use Rattle.text.proofs.Put.{then, room-left}
-use Rattle.batch.specs.Pairs.{pairsOf}
-use Rattle.batch_input.specs.Input.{code_of, ruleOf, limitOf}
-use Rattle.one_line.specs.Line.{headLine}
-use Rattle.one_line.proofs.Lengths.{head-short}
-use Rattle.listing.specs.Listing.{framesText}
+use Rattle.batch.specs.Pairs.{pairs_of}
+use Rattle.batch_input.specs.Input.{code_of, rule_of, limit_of}
+use Rattle.one_line.specs.Line.{head_line}
+use Rattle.one_line.proofs.Lengths.{head_short}
+use Rattle.listing.specs.Listing.{frames_text}
 use borrow.Author.Rules.{rules}
 use Rattle.listing.proofs.write_frames.Statement.{statement}
 use Rattle.listing.proofs.write_frames.Tie as tie
@@ -20,23 +20,23 @@ abbrev entry : tie.After-u16-at2 → tie.Start
 entry c = c.before.before.before.before.before.before.before.before.before.before.before.before
 
 abbrev many : tie.Start → ℕ
-many z = length (pairsOf z.args.pairs.now)
+many z = length (pairs_of z.args.pairs.now)
 
 -- the head line as it is written, and as it is defined
 abbrev head : tie.After-u16-at2 → List ℕ
-head c = let s = (entry c).args.input.now in headLine (code_of s) (ruleOf s) c.before.u16-at.result c.u16-at2.result
+head c = let s = (entry c).args.input.now in head_line (code_of s) (rule_of s) c.before.u16-at.result c.u16-at2.result
 
-head-is : (c : tie.After-u16-at2) → let s = (entry c).args.input.now in head c ≡ headLine (code_of s) (ruleOf s) (limitOf s) (many (entry c))
+head-is : (c : tie.After-u16-at2) → let s = (entry c).args.input.now in head c ≡ head_line (code_of s) (rule_of s) (limit_of s) (many (entry c))
 head-is c =
     let s = (entry c).args.input.now in
-    ap₂ (headLine (code_of s) (ruleOf s)) c.before.u16-at.ensures (c.u16-at2.ensures ∙ (entry c).requires.0.1)
+    ap₂ (head_line (code_of s) (rule_of s)) c.before.u16-at.ensures (c.u16-at2.ensures ∙ (entry c).requires.0.1)
 
 -- there is room for it and for the lines, before and after it is written
 room : (c : tie.After-u16-at2) → 0 + (length (head c) + 127 * many (entry c)) ≤ length (entry c).args.out.now
 room c =
     let s = (entry c).args.input.now in
     let p = (entry c).requires.1.1 in
-    omega (arith, head-short (code_of s) (ruleOf s) c.before.u16-at.result c.u16-at2.result, p.0, p.1.1.1)
+    omega (arith, head_short (code_of s) (rule_of s) c.before.u16-at.result c.u16-at2.result, p.0, p.1.1.1)
 
 abbrev ready : tie.After-head-line → tie.After-u16-at2
 ready c = c.before.before
@@ -80,7 +80,7 @@ same_length : tie.Need-same-length
 same_length c = search rules
 
 returns : tie.Need-returns
-unfolding framesText
+unfolding frames_text
 returns c =
     let done = c.before.before in
     let wrote = done.before.before.before.before in

@@ -7,15 +7,15 @@ use native.Mathlib.Omega.{arith}
 use lib.Ieee.{Float}
 use lib.ListN.{length, take, drop, set}
 use Rattle.one_round.specs.Round.{Decode}
-use Rattle.rounds.specs.Rounds.{chosenBits}
+use Rattle.rounds.specs.Rounds.{chosen_bits}
 use Rattle.rounds.specs.Told.{Told, told}
-use Rattle.one_frame.specs.Codes.{sizeN, decodeOf}
+use Rattle.one_frame.specs.Codes.{size_n, decode_of}
 use Rattle.batch_refusals.specs.Pairs.{pair, frame_of}
-use Rattle.check_places.specs.Places.{placeOf}
+use Rattle.check_places.specs.Places.{place_of}
 use Rattle.one_frame.specs.Place.{placed}
 use Rattle.batch_refusals.proofs.Sizes.{size_small}
-use Rattle.one_frame.proofs.Place.{part-frame, part_placed, lent-are}
-use Rattle.lists.proofs.Parts.{part-size}
+use Rattle.one_frame.proofs.Place.{part_frame, part_placed, lent_are}
+use Rattle.lists.proofs.Parts.{part_size}
 use borrow.Author.Rules.{rules}
 use Rattle.one_frame.proofs.decode_place.Statement.{statement}
 use Rattle.one_frame.proofs.decode_place.Tie as tie
@@ -41,11 +41,11 @@ room m = subst (λ (k : ℕ). (entry m).args.j * k + k ≤ length (entry m).args
 
 -- what is decoded: its values are those of the frame
 abbrev framed : tie.After-message-bits → List Float → Decode
-framed m llr = let a = (entry m).args in decodeOf a.code a.rule a.scale llr
+framed m llr = let a = (entry m).args in decode_of a.code a.rule a.scale llr
 
 same-frame : (m : tie.After-message-bits) → let a = (entry m).args in
-    framed m (take (a.offset + N m - a.offset) (drop a.offset a.values.now)) ≡ framed m (frame_of a.values.now (pair a.offset (sizeN a.code)))
-same-frame m = let a = (entry m).args in ap (framed m) (part-frame a.values.now a.offset m.before.frame-values.ensures)
+    framed m (take (a.offset + N m - a.offset) (drop a.offset a.values.now)) ≡ framed m (frame_of a.values.now (pair a.offset (size_n a.code)))
+same-frame m = let a = (entry m).args in ap (framed m) (part_frame a.values.now a.offset m.before.frame-values.ensures)
 
 -- ---- the needs
 
@@ -89,10 +89,10 @@ decode-frame-requires : tie.Need-decode-frame-requires
 decode-frame-requires c κs =
     let m = c.before.before.before in
     let a = (entry m).args in
-    let k = part-size a.bits.now (a.j * K m) (K m) (room m) ∙ m.message-bits.ensures in (
+    let k = part_size a.bits.now (a.j * K m) (K m) (room m) ∙ m.message-bits.ensures in (
       (entry m).requires.known,
       (
-        part-size a.values.now a.offset (N m) (inside m) ∙ m.before.frame-values.ensures,
+        part_size a.values.now a.offset (N m) (inside m) ∙ m.before.frame-values.ensures,
         (omega (arith, k, (size_small a.code).front), (entry m).requires.area),
       ),
     )
@@ -141,12 +141,12 @@ returns c =
     let a = (entry m).args in
     let r = done.decode-frame.ensures in
     let tells = r.0.tells ∙ ap (λ (d : Decode). told d a.limit) (same-frame m) in
-    let size = part-size a.bits.now (a.j * K m) (K m) (room m) ∙ m.message-bits.ensures in
-    let front = r.0.front ∙ ap₂ (λ (d : Decode) (k : ℕ). chosenBits d a.limit k) (same-frame m) size in
-    lent-are (part_placed a.bits.now a.j m.message-bits.ensures front)
+    let size = part_size a.bits.now (a.j * K m) (K m) (room m) ∙ m.message-bits.ensures in
+    let front = r.0.front ∙ ap₂ (λ (d : Decode) (k : ℕ). chosen_bits d a.limit k) (same-frame m) size in
+    lent_are (part_placed a.bits.now a.j m.message-bits.ensures front)
     (ap (λ (x : Told). set a.counts.now a.j x.count) tells)
     (ap (λ (x : Told). set a.rounds.now a.j x.rounds) tells)
-    (ap (set a.firsts.now a.j) (c.place_of.ensures ∙ ap (λ (x : Told). placeOf x.first) tells))
+    (ap (set a.firsts.now a.j) (c.place_of.ensures ∙ ap (λ (x : Told). place_of x.first) tells))
     r.1
 
 pub decode-place-spec : {M : Type 1} → statement M

@@ -4,7 +4,7 @@ use native.Mathlib.Omega.{arith}
 use lib.ListN.{length}
 use Rattle.text.specs.Text.{space, decimal, field, hex}
 use Rattle.text.proofs.Put.{then, room-left}
-use Rattle.one_line.specs.Line.{frameLine, cleanOrOpen, firstField}
+use Rattle.one_line.specs.Line.{frame_line, clean_or_open, first_field}
 use Rattle.one_line.proofs.Lengths.{frame-length}
 use borrow.Author.Rules.{rules}
 use Rattle.one_line.proofs.frame_line.Statement.{statement}
@@ -33,13 +33,13 @@ E f = f.before.before.before.before
 -- ---- the lengths of the fields, from the last one up
 
 abbrev first : tie.Start → ℕ
-first z = length (firstField z.args.count z.args.first) + 1
+first z = length (first_field z.args.count z.args.first) + 1
 
 abbrev bits : tie.Start → ℕ
 bits z = length (hex z.args.bits.now) + first z
 
 abbrev word : tie.Start → ℕ
-word z = length (cleanOrOpen z.args.clean) + bits z
+word z = length (clean_or_open z.args.clean) + bits z
 
 abbrev rounds : tie.Start → ℕ
 rounds z = length (field space z.args.rounds) + word z
@@ -103,7 +103,7 @@ same_length : tie.Need-same-length
 same_length c = search rules
 
 returns : tie.Need-returns
-unfolding frameLine
+unfolding frame_line
 returns c =
     let g = c.before.before in
     let f = g.before.before.before.before in

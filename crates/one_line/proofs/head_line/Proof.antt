@@ -4,8 +4,8 @@ use native.Mathlib.Omega.{arith}
 use lib.ListN.{length}
 use Rattle.text.specs.Text.{field}
 use Rattle.text.proofs.Put.{then, room-left}
-use Rattle.one_line.specs.Line.{codeWord, ruleWord, limitWord, framesWord, headLine}
-use Rattle.one_line.proofs.Lengths.{head-length}
+use Rattle.one_line.specs.Line.{code_word, rule_word, limit_word, frames_word, head_line}
+use Rattle.one_line.proofs.Lengths.{head_length}
 use borrow.Author.Rules.{rules}
 use Rattle.one_line.proofs.head_line.Statement.{statement}
 use Rattle.one_line.proofs.head_line.Tie as tie
@@ -27,18 +27,18 @@ C d = d.before.before.before.before.before
 -- ---- the lengths of the fields, from the last one up
 
 abbrev frames : tie.Start → ℕ
-frames z = length (field framesWord z.args.frames) + 1
+frames z = length (field frames_word z.args.frames) + 1
 
 abbrev limit : tie.Start → ℕ
-limit z = length (field limitWord z.args.limit) + frames z
+limit z = length (field limit_word z.args.limit) + frames z
 
 abbrev rule : tie.Start → ℕ
-rule z = length (field ruleWord z.args.rule) + limit z
+rule z = length (field rule_word z.args.rule) + limit z
 
 -- ---- the room that is left
 
-room0 : (z : tie.Start) → z.args.at + (length (field codeWord z.args.code) + rule z) ≤ length z.args.out.now
-room0 z = let a = z.args in omega (arith, head-length a.code a.rule a.limit a.frames, z.requires)
+room0 : (z : tie.Start) → z.args.at + (length (field code_word z.args.code) + rule z) ≤ length z.args.out.now
+room0 z = let a = z.args in omega (arith, head_length a.code a.rule a.limit a.frames, z.requires)
 
 room1 : (a : tie.After-put-field) → a.put-field.result + rule (Z a) ≤ length a.put-field.new.0
 room1 a = room-left _ _ _ _ _ _ a.put-field.ensures (room0 (Z a))
@@ -85,7 +85,7 @@ same_length : tie.Need-same-length
 same_length c = search rules
 
 returns : tie.Need-returns
-unfolding headLine
+unfolding head_line
 returns c =
     let e = c.before.before in
     let d = e.before.before.before.before in

@@ -6,7 +6,7 @@ use Rattle.staircase.proofs.Laid.{taps-right}
 use Rattle.n512r12.proofs.Tables.{taps0, laid0}
 use Rattle.stairs.proofs.Codes.{stairs0}
 use Rattle.stair_parity.proofs.Filling.{part_of}
-use Rattle.parities.proofs.Filled.{four-filled}
+use Rattle.parities.proofs.Filled.{four_filled}
 use borrow.Author.Rules.{rules}
 use Rattle.parities.proofs.fill_n512r12.Statement.{statement}
 use Rattle.parities.proofs.fill_n512r12.Tie as tie
@@ -49,7 +49,7 @@ returns c =
     let three = four.before.before.before.before.before in
     let two = three.before.before.before.before.before in
     let one = two.before.before.before.before.before in
-    four-filled n512r12 3 64 taps0 _ _ _ _ _ (taps-right laid0) refl one.fill-four.ensures two.fill-four2.ensures three.fill-four3.ensures
+    four_filled n512r12 3 64 taps0 _ _ _ _ _ (taps-right laid0) refl one.fill-four.ensures two.fill-four2.ensures three.fill-four3.ensures
     four.fill-four4.ensures
 
 pub fill-n512r12-spec : {M : Type 1} → statement M

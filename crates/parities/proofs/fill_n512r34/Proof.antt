@@ -6,7 +6,7 @@ use Rattle.staircase.proofs.Laid.{taps-right}
 use Rattle.n512r34.proofs.Tables.{taps2, laid2}
 use Rattle.stairs.proofs.Codes.{stairs2}
 use Rattle.stair_parity.proofs.Filling.{part_of}
-use Rattle.parities.proofs.Filled.{four-filled}
+use Rattle.parities.proofs.Filled.{four_filled}
 use borrow.Author.Rules.{rules}
 use Rattle.parities.proofs.fill_n512r34.Statement.{statement}
 use Rattle.parities.proofs.fill_n512r34.Tie as tie
@@ -49,7 +49,7 @@ returns c =
     let three = four.before.before.before.before.before in
     let two = three.before.before.before.before.before in
     let one = two.before.before.before.before.before in
-    four-filled n512r34 9 32 taps2 _ _ _ _ _ (taps-right laid2) refl one.fill-four.ensures two.fill-four2.ensures three.fill-four3.ensures
+    four_filled n512r34 9 32 taps2 _ _ _ _ _ (taps-right laid2) refl one.fill-four.ensures two.fill-four2.ensures three.fill-four3.ensures
     four.fill-four4.ensures
 
 pub fill-n512r34-spec : {M : Type 1} → statement M

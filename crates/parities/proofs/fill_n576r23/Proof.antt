@@ -6,7 +6,7 @@ use Rattle.staircase.proofs.Laid.{taps-right}
 use Rattle.n576r23.proofs.Tables.{taps1, laid1}
 use Rattle.stairs.proofs.Codes.{stairs1}
 use Rattle.stair_parity.proofs.Filling.{part_of}
-use Rattle.parities.proofs.Filled.{four-filled}
+use Rattle.parities.proofs.Filled.{four_filled}
 use borrow.Author.Rules.{rules}
 use Rattle.parities.proofs.fill_n576r23.Statement.{statement}
 use Rattle.parities.proofs.fill_n576r23.Tie as tie
@@ -49,7 +49,7 @@ returns c =
     let three = four.before.before.before.before.before in
     let two = three.before.before.before.before.before in
     let one = two.before.before.before.before.before in
-    four-filled n576r23 6 48 taps1 _ _ _ _ _ (taps-right laid1) refl one.fill-four.ensures two.fill-four2.ensures three.fill-four3.ensures
+    four_filled n576r23 6 48 taps1 _ _ _ _ _ (taps-right laid1) refl one.fill-four.ensures two.fill-four2.ensures three.fill-four3.ensures
     four.fill-four4.ensures
 
 pub fill-n576r23-spec : {M : Type 1} → statement M

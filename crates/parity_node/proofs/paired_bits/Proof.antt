@@ -4,16 +4,16 @@ use Prim.Native.Nat.{◌+◌, ◌-◌, ◌<◌, ◌≤◌}
 use native.Mathlib.Omega.{arith}
 use lib.Ieee.{of_bits}
 use lib.ListN.{length, length-set}
-use Rattle.variable_node.specs.Passes.{turns, passOf}
-use Rattle.parity_node.specs.Parity.{parityTurn}
-use Rattle.parity_node.proofs.Turns.{paired-more}
+use Rattle.variable_node.specs.Passes.{turns, pass_of}
+use Rattle.parity_node.specs.Parity.{parity_turn}
+use Rattle.parity_node.proofs.Turns.{paired_more}
 use borrow.Author.Rules.{rules}
 use Rattle.parity_node.proofs.paired_bits.Statement.{statement}
 use Rattle.parity_node.proofs.paired_bits.Tie as tie
 
 abbrev invariant-loop : tie.invariant-loop
 invariant-loop k m from llr messages₀ hard₀ next i₀ messages hard i = (i + 1 ≤ m) × (length messages ≡ length messages₀) × (length hard ≡ length hard₀) ×
-    (passOf hard messages ≡ turns (parityTurn llr k m from) i (passOf hard₀ messages₀))
+    (pass_of hard messages ≡ turns (parity_turn llr k m from) i (pass_of hard₀ messages₀))
 
 abbrev decreases-loop : tie.decreases-loop
 decreases-loop k m from llr messages₀ hard₀ next i₀ messages hard i = m - i
@@ -112,7 +112,7 @@ loop-again c =
       omega (arith, (fits t).0),
       simp length-set l.loop.invariant.1,
       simp length-set l.loop.invariant.2,
-      paired-more _ _ _ _ l.loop.i _ _ _ _ _ (fits t).0 refl l.loop.invariant.3 c.decide.ensures,
+      paired_more _ _ _ _ l.loop.i _ _ _ _ _ (fits t).0 refl l.loop.invariant.3 c.decide.ensures,
     )
 
 same_length : tie.Need-same-length invariant-loop decreases-loop

@@ -4,15 +4,15 @@ use Prim.Native.Nat.{◌+◌, ◌-◌, ◌<◌, ◌≤◌}
 use native.Mathlib.Omega.{arith}
 use lib.ListN.{length, length-set}
 use Rattle.variable_node.specs.Passes.{turns}
-use Rattle.parity_node.specs.Parity.{parityFirst}
-use Rattle.parity_node.proofs.Turns.{paired-first-more}
+use Rattle.parity_node.specs.Parity.{parity_first}
+use Rattle.parity_node.proofs.Turns.{paired_first_more}
 use borrow.Author.Rules.{rules}
 use Rattle.parity_node.proofs.paired_first.Statement.{statement}
 use Rattle.parity_node.proofs.paired_first.Tie as tie
 
 abbrev invariant-loop : tie.invariant-loop
 invariant-loop k m from llr messages₀ next i₀ messages i = (i + 1 ≤ m) × (length messages ≡ length messages₀)
-    × (messages ≡ turns (parityFirst llr k m from) i messages₀)
+    × (messages ≡ turns (parity_first llr k m from) i messages₀)
 
 abbrev decreases-loop : tie.decreases-loop
 decreases-loop k m from llr messages₀ next i₀ messages i = m - i
@@ -74,7 +74,7 @@ loop-again c =
     let l = t.before in (
       omega (arith, (fits t).0),
       simp length-set l.loop.invariant.1,
-      paired-first-more _ _ _ _ l.loop.i _ _ _ (fits t).0 refl l.loop.invariant.2,
+      paired_first_more _ _ _ _ l.loop.i _ _ _ (fits t).0 refl l.loop.invariant.2,
     )
 
 same_length : tie.Need-same-length invariant-loop decreases-loop

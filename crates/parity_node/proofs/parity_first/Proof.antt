@@ -1,5 +1,5 @@
 -- `parity_node::parity_first` meets its contract: the last bit after the others. Assumes nothing.
-use Rattle.parity_node.proofs.Turns.{last-first}
+use Rattle.parity_node.proofs.Turns.{last_first}
 use borrow.Author.Rules.{rules}
 use Rattle.parity_node.proofs.parity_first.Statement.{statement}
 use Rattle.parity_node.proofs.parity_first.Tie as tie
@@ -35,7 +35,7 @@ returns : tie.Need-returns
 returns c =
     let call = c.before.before.before in
     let s = call.before.before.before.before in
-    last-first _ _ _ _ _ _ s.requires.1.some call.paired-first.ensures
+    last_first _ _ _ _ _ _ s.requires.1.some call.paired-first.ensures
 
 pub parity-first-spec : {M : Type 1} → statement M
 parity-first-spec =

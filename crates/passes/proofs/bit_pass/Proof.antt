@@ -1,6 +1,6 @@
 -- `passes::bit_pass` meets its contract: the code that has the number. Assumes nothing.
 use mathlib.Core.Path.{◌≡◌}
-use Rattle.numbered.proofs.Codes.{size-at, last_code}
+use Rattle.numbered.proofs.Codes.{size_at, last_code}
 use Rattle.passes.proofs.Tables.{room_at}
 use borrow.Author.Rules.{rules}
 use Rattle.passes.proofs.bit_pass.Statement.{statement}
@@ -14,7 +14,7 @@ bits-n512r12-requires : tie.Need-bits-n512r12-requires
 bits-n512r12-requires c κs =
     let t = c.before.before in
     let s = t.before.before.before.before in
-    (size-at _ 0 _ t.if1.true s.requires.1.0, (room_at _ 0 _ t.if1.true s.requires.1.1.0, size-at _ 0 _ t.if1.true s.requires.1.1.1))
+    (size_at _ 0 _ t.if1.true s.requires.1.0, (room_at _ 0 _ t.if1.true s.requires.1.1.0, size_at _ 0 _ t.if1.true s.requires.1.1.1))
 
 same_length : tie.Need-same-length
 same_length c = search rules
@@ -29,7 +29,7 @@ bits-n576r23-requires : tie.Need-bits-n576r23-requires
 bits-n576r23-requires c κs =
     let t = c.before.before in
     let s = t.before.before.before.before.before in
-    (size-at _ 1 _ t.if2.true s.requires.1.0, (room_at _ 1 _ t.if2.true s.requires.1.1.0, size-at _ 1 _ t.if2.true s.requires.1.1.1))
+    (size_at _ 1 _ t.if2.true s.requires.1.0, (room_at _ 1 _ t.if2.true s.requires.1.1.0, size_at _ 1 _ t.if2.true s.requires.1.1.1))
 
 same-length-3 : tie.Need-same-length-3
 same-length-3 c = search rules
@@ -44,7 +44,7 @@ bits-n512r34-requires : tie.Need-bits-n512r34-requires
 bits-n512r34-requires c κs =
     let t = c.before.before in
     let s = t.before.before.before.before.before.before in
-    (size-at _ 2 _ t.if3.true s.requires.1.0, (room_at _ 2 _ t.if3.true s.requires.1.1.0, size-at _ 2 _ t.if3.true s.requires.1.1.1))
+    (size_at _ 2 _ t.if3.true s.requires.1.0, (room_at _ 2 _ t.if3.true s.requires.1.1.0, size_at _ 2 _ t.if3.true s.requires.1.1.1))
 
 same-length-5 : tie.Need-same-length-5
 same-length-5 c = search rules
@@ -59,7 +59,7 @@ bits-ft8-requires : tie.Need-bits-ft8-requires
 bits-ft8-requires c κs =
     let t = c.before.before in
     let s = t.before.before.before.before.before.before in
-    (size-at _ 3 _ (last t) s.requires.1.0, (room_at _ 3 _ (last t) s.requires.1.1.0, size-at _ 3 _ (last t) s.requires.1.1.1))
+    (size_at _ 3 _ (last t) s.requires.1.0, (room_at _ 3 _ (last t) s.requires.1.1.0, size_at _ 3 _ (last t) s.requires.1.1.1))
 
 same-length-7 : tie.Need-same-length-7
 same-length-7 c = search rules

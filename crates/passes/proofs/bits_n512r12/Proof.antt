@@ -4,7 +4,7 @@ use native.Mathlib.Omega.{arith}
 use Rattle.construction.specs.Codes.{n512r12}
 use Rattle.staircase.specs.Codes.{checks}
 use Rattle.n512r12.proofs.Tables.{places0}
-use Rattle.passes.specs.Codes.{sizeN, sizeM, checksBy, kindBy, degree, room}
+use Rattle.passes.specs.Codes.{size_n, size_m, checks_by, kind_by, degree, room}
 use Rattle.passes.proofs.Tables.{edges0, listed0}
 use borrow.Author.Rules.{rules}
 use Rattle.passes.proofs.bits_n512r12.Statement.{statement}
@@ -15,7 +15,7 @@ unfolding places0
 slice-aggregate-stair-bits c = refl
 
 stair-bits-requires : tie.Need-stair-bits-requires
-unfolding places0 sizeN room degree sizeM
+unfolding places0 size_n room degree size_m
 stair-bits-requires c κs =
     let p = c.before.before.before.before.before.before.requires in
     (omega (arith, p.0), (omega (arith, p.1.1), (listed0 _ p.1.0, record { some = omega arith; fits = omega (arith, p.1.0) })))
@@ -27,7 +27,7 @@ same-length-2 : tie.Need-same-length-2
 same-length-2 c = search rules
 
 returns : tie.Need-returns
-unfolding places0 checksBy sizeM sizeN kindBy
+unfolding places0 checks_by size_m size_n kind_by
 returns c = c.before.before.before.before.stair-bits.ensures (checks n512r12) edges0
 
 pub bits-n512r12-spec : {M : Type 1} → statement M

@@ -1,10 +1,10 @@
 -- `passes::check_pass` meets its contract, code by code: its pads are the places that its checks lack. Assumes nothing.
 use mathlib.Core.Path.{refl}
 use native.Mathlib.Omega.{arith}
-use Rattle.code174.proofs.Arrays.{slotPads}
-use Rattle.passes.specs.Codes.{sizeM, checksBy, degree, room}
+use Rattle.code174.proofs.Arrays.{slot_pads}
+use Rattle.passes.specs.Codes.{size_m, checks_by, degree, room}
 use Rattle.numbered.proofs.Codes.{last_code}
-use Rattle.passes.proofs.Tables.{pads0, pads1, pads2, pads3, one_below, pads-below, room_at}
+use Rattle.passes.proofs.Tables.{pads0, pads1, pads2, pads3, one_below, pads_below, room_at}
 use borrow.Author.Rules.{rules}
 use Rattle.passes.proofs.check_pass.Statement.{statement}
 use Rattle.passes.proofs.check_pass.Tie as tie
@@ -13,7 +13,7 @@ slice-aggregate-check-step : tie.Need-slice-aggregate-check-step
 slice-aggregate-check-step c = search rules
 
 check-step-requires : tie.Need-check-step-requires
-unfolding room degree sizeM
+unfolding room degree size_m
 check-step-requires c κs =
     let t = c.before.before in
     let s = t.before.before in
@@ -24,7 +24,7 @@ same_length : tie.Need-same-length
 same_length c = search rules
 
 returns : tie.Need-returns
-unfolding checksBy sizeM degree
+unfolding checks_by size_m degree
 returns c =
     let call = c.before.before in
     rw (call.before.before.before.if1.true, ← pads0) call.check-step.ensures
@@ -33,7 +33,7 @@ slice-aggregate-check-step-2 : tie.Need-slice-aggregate-check-step-2
 slice-aggregate-check-step-2 c = search rules
 
 check-step-requires-2 : tie.Need-check-step-requires-2
-unfolding room degree sizeM
+unfolding room degree size_m
 check-step-requires-2 c κs =
     let t = c.before.before in
     let s = t.before.before.before in
@@ -44,7 +44,7 @@ same-length-2 : tie.Need-same-length-2
 same-length-2 c = search rules
 
 returns-2 : tie.Need-returns-2
-unfolding checksBy sizeM degree
+unfolding checks_by size_m degree
 returns-2 c =
     let call = c.before.before in
     rw (call.before.before.before.if2.true, ← pads1) call.check-step2.ensures
@@ -53,7 +53,7 @@ slice-aggregate-check-step-3 : tie.Need-slice-aggregate-check-step-3
 slice-aggregate-check-step-3 c = search rules
 
 check-step-requires-3 : tie.Need-check-step-requires-3
-unfolding room degree sizeM
+unfolding room degree size_m
 check-step-requires-3 c κs =
     let t = c.before.before in
     let s = t.before.before.before.before in
@@ -64,28 +64,28 @@ same-length-3 : tie.Need-same-length-3
 same-length-3 c = search rules
 
 returns-3 : tie.Need-returns-3
-unfolding checksBy sizeM degree
+unfolding checks_by size_m degree
 returns-3 c =
     let call = c.before.before in
     rw (call.before.before.before.if3.true, ← pads2) call.check-step3.ensures
 
 slice-aggregate-check-step-4 : tie.Need-slice-aggregate-check-step-4
-unfolding slotPads
+unfolding slot_pads
 slice-aggregate-check-step-4 c = refl
 
 check-step-requires-4 : tie.Need-check-step-requires-4
-unfolding room degree sizeM slotPads
+unfolding room degree size_m slot_pads
 check-step-requires-4 c κs =
     let t = c.before.before in
     let s = t.before.before.before.before in
     let e = room_at _ 3 _ (last_code _ s.requires.0 t.before.before.if1.false t.before.if2.false t.if3.false) s.requires.1 in
-    (e, pads-below _ e)
+    (e, pads_below _ e)
 
 same-length-4 : tie.Need-same-length-4
 same-length-4 c = search rules
 
 returns-4 : tie.Need-returns-4
-unfolding checksBy sizeM degree slotPads
+unfolding checks_by size_m degree slot_pads
 returns-4 c =
     let call = c.before.before in
     let t = call.before.before.before in

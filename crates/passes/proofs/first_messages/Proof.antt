@@ -1,6 +1,6 @@
 -- `passes::first_messages` meets its contract: the code that has the number. Assumes nothing.
 use mathlib.Core.Path.{◌≡◌}
-use Rattle.numbered.proofs.Codes.{size-at, last_code}
+use Rattle.numbered.proofs.Codes.{size_at, last_code}
 use Rattle.passes.proofs.Tables.{room_at}
 use borrow.Author.Rules.{rules}
 use Rattle.passes.proofs.first_messages.Statement.{statement}
@@ -14,7 +14,7 @@ first-n512r12-requires : tie.Need-first-n512r12-requires
 first-n512r12-requires c κs =
     let t = c.before in
     let s = t.before.before.before in
-    (size-at _ 0 _ t.if1.true s.requires.1.0, room_at _ 0 _ t.if1.true s.requires.1.1)
+    (size_at _ 0 _ t.if1.true s.requires.1.0, room_at _ 0 _ t.if1.true s.requires.1.1)
 
 same_length : tie.Need-same-length
 same_length c = search rules
@@ -26,7 +26,7 @@ first-n576r23-requires : tie.Need-first-n576r23-requires
 first-n576r23-requires c κs =
     let t = c.before in
     let s = t.before.before.before.before in
-    (size-at _ 1 _ t.if2.true s.requires.1.0, room_at _ 1 _ t.if2.true s.requires.1.1)
+    (size_at _ 1 _ t.if2.true s.requires.1.0, room_at _ 1 _ t.if2.true s.requires.1.1)
 
 same-length-2 : tie.Need-same-length-2
 same-length-2 c = search rules
@@ -38,7 +38,7 @@ first-n512r34-requires : tie.Need-first-n512r34-requires
 first-n512r34-requires c κs =
     let t = c.before in
     let s = t.before.before.before.before.before in
-    (size-at _ 2 _ t.if3.true s.requires.1.0, room_at _ 2 _ t.if3.true s.requires.1.1)
+    (size_at _ 2 _ t.if3.true s.requires.1.0, room_at _ 2 _ t.if3.true s.requires.1.1)
 
 same-length-3 : tie.Need-same-length-3
 same-length-3 c = search rules
@@ -50,7 +50,7 @@ first-ft8-requires : tie.Need-first-ft8-requires
 first-ft8-requires c κs =
     let t = c.before in
     let s = t.before.before.before.before.before in
-    (size-at _ 3 _ (last t) s.requires.1.0, room_at _ 3 _ (last t) s.requires.1.1)
+    (size_at _ 3 _ (last t) s.requires.1.0, room_at _ 3 _ (last t) s.requires.1.1)
 
 same-length-4 : tie.Need-same-length-4
 same-length-4 c = search rules

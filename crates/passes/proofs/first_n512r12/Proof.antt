@@ -4,7 +4,7 @@ use native.Mathlib.Omega.{arith}
 use Rattle.construction.specs.Codes.{n512r12}
 use Rattle.staircase.specs.Codes.{checks}
 use Rattle.n512r12.proofs.Tables.{places0}
-use Rattle.passes.specs.Codes.{sizeN, sizeM, checksBy, degree, room}
+use Rattle.passes.specs.Codes.{size_n, size_m, checks_by, degree, room}
 use Rattle.passes.proofs.Tables.{edges0, listed0}
 use borrow.Author.Rules.{rules}
 use Rattle.passes.proofs.first_n512r12.Statement.{statement}
@@ -15,7 +15,7 @@ unfolding places0
 slice-aggregate-stair-first c = refl
 
 stair-first-requires : tie.Need-stair-first-requires
-unfolding places0 sizeN room degree sizeM
+unfolding places0 size_n room degree size_m
 stair-first-requires c κs =
     let s = c.before.before.before.before in
     (omega (arith, s.requires.0), (listed0 _ s.requires.1, record { some = omega arith; fits = omega (arith, s.requires.1) }))
@@ -24,7 +24,7 @@ same_length : tie.Need-same-length
 same_length c = search rules
 
 returns : tie.Need-returns
-unfolding places0 checksBy sizeM sizeN
+unfolding places0 checks_by size_m size_n
 returns c = c.before.before.stair-first.ensures (checks n512r12) edges0
 
 pub first-n512r12-spec : {M : Type 1} → statement M

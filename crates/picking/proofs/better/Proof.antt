@@ -3,7 +3,7 @@ use mathlib.Core.Path.{ap}
 use Prim.Native.Nat.{◌<◌}
 use lib.ListN.{length}
 use native.Mathlib.Omega.{arith}
-use Rattle.picking.specs.Searches.{FoundBelow, foundOf}
+use Rattle.picking.specs.Searches.{FoundBelow, found_of}
 use Rattle.picking.proofs.Searches.{below_row, met-skipped, met-only, met_less, met-other}
 use borrow.Author.Rules.{rules}
 use Rattle.picking.proofs.better.Statement.{statement}
@@ -23,7 +23,7 @@ enum_told c = search rules
 
 returns-2 : tie.Need-returns-2
 unfolding FoundBelow
-returns-2 c = (met-only _ _ _ c.before.before.if1.false (ap foundOf c.enum_told.given.1), search rules)
+returns-2 c = (met-only _ _ _ c.before.before.if1.false (ap found_of c.enum_told.given.1), search rules)
 
 mul-if2 : tie.Need-overflow-mul-if2
 mul-if2 c = search rules
@@ -33,7 +33,7 @@ shared-slice-read-if2 c = search rules
 
 -- a row was found before: it is below the number of loads
 row_below : (d : tie.After-found) → d.found.given.0.0 < length d.before.before.before.before.args.loads.now
-row_below d = below_row (ap foundOf d.found.given.1) d.before.before.before.before.requires.1.1
+row_below d = below_row (ap found_of d.found.given.1) d.before.before.before.before.requires.1.1
 
 mul-if2-2 : tie.Need-overflow-mul-if2-2
 mul-if2-2 c = omega (arith, row_below c.before.before)
@@ -45,13 +45,13 @@ returns-3 : tie.Need-returns-3
 unfolding FoundBelow
 returns-3 c =
     let d = c.before.before.before.before in
-    (met_less _ _ _ d.before.before.if1.false _ (ap foundOf d.found.given.1) c.if2.true, search rules)
+    (met_less _ _ _ d.before.before.if1.false _ (ap found_of d.found.given.1) c.if2.true, search rules)
 
 returns-4 : tie.Need-returns-4
 unfolding FoundBelow
 returns-4 c =
     let d = c.before.before.before.before in
-    (met-other _ _ _ d.before.before.if1.false _ (ap foundOf d.found.given.1) c.if2.false, row_below d)
+    (met-other _ _ _ d.before.before.if1.false _ (ap found_of d.found.given.1) c.if2.false, row_below d)
 
 pub better-spec : {M : Type 1} → statement M
 better-spec =

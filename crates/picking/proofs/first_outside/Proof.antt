@@ -5,14 +5,14 @@ use mathlib.Core.Logic.{⊎_elim}
 use Prim.Native.Nat.{◌-◌}
 use native.Mathlib.Omega.{arith}
 use borrow.Author.Tests.{not-true, not-false}
-use Rattle.picking.specs.Picks.{up_from, firstOutside}
+use Rattle.picking.specs.Picks.{up_from, first_outside}
 use Rattle.picking.proofs.Relaxed.{outside-more, outside-found, outside-done}
 use borrow.Author.Rules.{rules}
 use Rattle.picking.proofs.first_outside.Statement.{statement}
 use Rattle.picking.proofs.first_outside.Tie as tie
 
 abbrev invariant-loop : tie.invariant-loop
-invariant-loop column from to other r₀ r = firstOutside column (up_from r (to - r)) other ≡ firstOutside column (up_from from (to - from)) other
+invariant-loop column from to other r₀ r = first_outside column (up_from r (to - r)) other ≡ first_outside column (up_from from (to - from)) other
 
 abbrev decreases-loop : tie.decreases-loop
 decreases-loop column from to other r₀ r = to - r

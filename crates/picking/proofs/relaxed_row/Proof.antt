@@ -2,7 +2,7 @@
 use mathlib.Core.Path.{◌≡◌}
 use Prim.Native.Nat.{◌-◌}
 use native.Mathlib.Omega.{arith}
-use Rattle.picking.proofs.Relaxed.{outside-append}
+use Rattle.picking.proofs.Relaxed.{outside_append}
 use borrow.Author.Rules.{rules}
 use Rattle.picking.proofs.relaxed_row.Statement.{statement}
 use Rattle.picking.proofs.relaxed_row.Tie as tie
@@ -17,7 +17,7 @@ returns : tie.Need-returns
 returns c =
     let start = c.before.before.before.args.start in
     let z : start - 0 ≡ start = omega arith in
-    rw (c.first-outside2.ensures, c.before.first-outside.ensures, z) (outside-append _ _ _ _)
+    rw (c.first-outside2.ensures, c.before.first-outside.ensures, z) (outside_append _ _ _ _)
 
 pub relaxed-row-spec : {M : Type 1} → statement M
 relaxed-row-spec = tie.close (tie.spec first-outside-requires first-outside-requires-2 returns)

@@ -3,18 +3,18 @@
 use mathlib.Core.Path.{◌≡◌, refl}
 use Prim.Native.Nat.{◌-◌}
 use lib.ListN.{length}
-use Rattle.columns.specs.Tables.{flagAt}
+use Rattle.columns.specs.Tables.{flag_at}
 use Rattle.picking.specs.Picks.{up_from}
-use Rattle.picking.specs.Searches.{FoundBelow, foundOf, loadAt, metRows}
-use Rattle.picking.proofs.Searches.{part-more, part-stops, part-done}
+use Rattle.picking.specs.Searches.{FoundBelow, found_of, load_at, met_rows}
+use Rattle.picking.proofs.Searches.{part-more, part-stops, part_done}
 use borrow.Author.Rules.{rules}
 use Rattle.picking.proofs.search_part.Statement.{statement}
 use Rattle.picking.proofs.search_part.Tie as tie
 
 abbrev invariant-loop : tie.invariant-loop
 invariant-loop loads marks from to found₀ r₀ found r =
-    let met = metRows (loadAt loads) (flagAt marks) in
-    (FoundBelow (length loads) (foundOf found)) × (met (up_from r (to - r)) (foundOf found) ≡ met (up_from from (to - from)) (foundOf found₀))
+    let met = met_rows (load_at loads) (flag_at marks) in
+    (FoundBelow (length loads) (found_of found)) × (met (up_from r (to - r)) (found_of found) ≡ met (up_from from (to - from)) (found_of found₀))
 
 abbrev decreases-loop : tie.decreases-loop
 decreases-loop loads marks from to found₀ r₀ found r = to - r
@@ -41,7 +41,7 @@ loop-again c =
     (met.better.ensures.1, part-more _ _ _ _ _ turn.loop-test.true met.better.ensures.0 turn.before.loop.invariant.1)
 
 returns : tie.Need-returns invariant-loop decreases-loop
-returns c = (part-done _ _ _ _ _ c.loop-test.false c.before.loop.invariant.1, c.before.loop.invariant.0)
+returns c = (part_done _ _ _ _ _ c.loop-test.false c.before.loop.invariant.1, c.before.loop.invariant.0)
 
 returns-2 : tie.Need-returns-2 invariant-loop decreases-loop
 returns-2 c =

@@ -3,7 +3,7 @@ use mathlib.Core.Path.{◌≡◌, ap}
 use Prim.Native.Nat.{ℕ}
 use native.Mathlib.Omega.{arith}
 use borrow.Author.Tests.{eqb-true}
-use Rattle.picking.specs.Searches.{Unbeaten, foundOf}
+use Rattle.picking.specs.Searches.{Unbeaten, found_of}
 use Rattle.picking.proofs.Searches.{below_row}
 use borrow.Author.Rules.{rules}
 use Rattle.picking.proofs.unbeaten.Statement.{statement}
@@ -19,10 +19,10 @@ returns : tie.Need-returns
 returns c = λ e. let z : ◌≡◌ {A = ℕ} 0 1 = cc in absurd (omega arith)
 
 mul-result : tie.Need-overflow-mul-result
-mul-result c = omega (arith, below_row (ap foundOf c.before.found.given.1) c.before.before.before.requires)
+mul-result c = omega (arith, below_row (ap found_of c.before.found.given.1) c.before.before.before.requires)
 
 shared-slice-read-result : tie.Need-shared-slice-read-result
-shared-slice-read-result c = below_row (ap foundOf c.before.before.found.given.1) c.before.before.before.before.requires
+shared-slice-read-result c = below_row (ap found_of c.before.before.found.given.1) c.before.before.before.before.requires
 
 returns-2 : tie.Need-returns-2
 unfolding Unbeaten

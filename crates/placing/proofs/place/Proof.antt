@@ -1,7 +1,7 @@
 -- `placing::place` meets its contract: the pick from the tables is the definition's, and it is marked. Assumes nothing.
 use native.Mathlib.Omega.{arith}
 use Rattle.picking.specs.Searches.{choice_of}
-use Rattle.placing.proofs.Picks.{before-below, placed}
+use Rattle.placing.proofs.Picks.{before_below, placed}
 use borrow.Author.Rules.{rules}
 use Rattle.placing.proofs.place.Statement.{statement}
 use Rattle.placing.proofs.place.Tie as tie
@@ -35,8 +35,8 @@ mark-together-requires : tie.Need-mark-together-requires
 mark-together-requires c κs =
     let d = c.before.before in
     let pre = (start d).requires in
-    let size = pre.1.ready.flagsAre in
-    (omega (arith, d.pick-row.ensures.1, size), (search rules, rw size (before-below pre.0 pre.1)))
+    let size = pre.1.ready.flags_are in
+    (omega (arith, d.pick-row.ensures.1, size), (search rules, rw size (before_below pre.0 pre.1)))
 
 cast-rows : tie.Need-overflow-cast-rows
 cast-rows c = search rules

@@ -4,8 +4,8 @@ use mathlib.Core.Path.{◌≡◌, sym, ◌∙◌}
 use Prim.Native.Nat.{ℕ}
 use native.Mathlib.Omega.{arith}
 use lib.ListN.{length}
-use Rattle.batch.specs.Codes.{sizeN}
-use Rattle.batch.proofs.Sizes.{size_small, values-ft8}
+use Rattle.batch.specs.Codes.{size_n}
+use Rattle.batch.proofs.Sizes.{size_small, values_ft8}
 use Rattle.reason.proofs.Word.{word-whole, reason-is}
 use borrow.Author.Rules.{rules}
 use Rattle.reason.proofs.find_reason.Statement.{statement}
@@ -21,8 +21,8 @@ places : (d : tie.After-decode-frame) → length (entry d).args.word.now ≡ len
 places d = (entry d).requires.1.1.0 ∙ sym (entry d).requires.1.0
 
 -- code 3 has 174 places
-ft8 : (code : ℕ) → code ≡ 3 → 174 ≡ sizeN code
-ft8 code e = values-ft8 code (omega arith)
+ft8 : (code : ℕ) → code ≡ 3 → 174 ≡ size_n code
+ft8 code e = values_ft8 code (omega arith)
 
 -- ---- the needs
 

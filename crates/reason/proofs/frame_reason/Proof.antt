@@ -4,8 +4,8 @@ use mathlib.Core.Bool.{false}
 use native.Mathlib.Omega.{arith}
 use borrow.Author.Tests.{lt-ltb, le-ltb, eq-eqb, ne_eqb}
 use lib.ListN.{length}
-use Rattle.batch.specs.Codes.{sizeN}
-use Rattle.batch.specs.Calls.{ruleNotOfCode}
+use Rattle.batch.specs.Codes.{size_n}
+use Rattle.batch.specs.Calls.{rule_not_of_code}
 use Rattle.reason.specs.Calls.{Asked, asked, refusals}
 use Rattle.reason.proofs.Answers.{turned_down, explained, all_right}
 use borrow.Author.Rules.{rules}
@@ -25,17 +25,17 @@ call s = let a = s.args in asked a.code a.rule a.scale a.limit a.values.now a.wo
 abbrev start : tie.Else3 → tie.Start
 start c = entry c.before.before.before
 
-own-rule : (c : tie.Else3) → ruleNotOfCode (start c).args.code (start c).args.rule ≡ false
+own-rule : (c : tie.Else3) → rule_not_of_code (start c).args.code (start c).args.rule ≡ false
 own-rule c = sym c.before.rule-not-of-code.ensures ∙ c.if3.false
 
 -- and then the values, and the places for the word
 abbrev numbers : tie.Else4 → tie.Else3
 numbers c = c.before.before
 
-values-right : (c : tie.Else4) → let a = (start (numbers c)).args in length a.values.now ≡ sizeN a.code
+values-right : (c : tie.Else4) → let a = (start (numbers c)).args in length a.values.now ≡ size_n a.code
 values-right c = c.if4.false ∙ c.before.frame-values.ensures
 
-word-right : (c : tie.Else5) → let a = (start (numbers c.before)).args in length a.word.now ≡ sizeN a.code
+word-right : (c : tie.Else5) → let a = (start (numbers c.before)).args in length a.word.now ≡ size_n a.code
 word-right c = c.if5.false ∙ c.before.before.frame-values.ensures
 
 -- ---- the needs

@@ -8,7 +8,7 @@ use Rattle.tanner.specs.Flat.{Within, rows_of}
 use Rattle.lists.proofs.Below.{below-part}
 use Rattle.text.specs.Text.{field}
 use Rattle.text.proofs.Put.{then, room-left}
-use Rattle.reason_lines.specs.Lines.{checkWord, entries, checkLine}
+use Rattle.reason_lines.specs.Lines.{check_word, entries, check_line}
 use Rattle.reason_lines.proofs.Lengths.{check-length}
 use Rattle.reason_lines.proofs.Steps.{row_is}
 use borrow.Author.Rules.{rules}
@@ -44,7 +44,7 @@ bounds z = z.requires.0.within z.args.c z.requires.1.0
 abbrev start : tie.After-put-field → tie.Start
 start h = h.before.before.before.before.before.before.before.before.before
 
-room0 : (z : tie.Start) → 0 + (length (field checkWord z.args.c) + (length (entries (row z) z.args.word.now) + 1)) ≤ length z.args.out.now
+room0 : (z : tie.Start) → 0 + (length (field check_word z.args.c) + (length (entries (row z) z.args.word.now) + 1)) ≤ length z.args.out.now
 room0 z =
     let long = rw (row-right z) at (check-length (rows_of (starts z) (flat z)) z.args.word.now z.args.c) in
     omega (arith, z.requires.1.1)
@@ -112,7 +112,7 @@ same_length : tie.Need-same-length
 same_length c = search rules
 
 returns : tie.Need-returns
-unfolding checkLine
+unfolding check_line
 returns c =
     let done = c.before.before in
     let e = done.before.before.before.before in

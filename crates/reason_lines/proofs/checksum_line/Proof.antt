@@ -3,8 +3,8 @@ use Prim.Native.Nat.{◌+◌, ◌≤◌}
 use native.Mathlib.Omega.{arith}
 use lib.ListN.{length}
 use Rattle.text.proofs.Put.{then, room-left}
-use Rattle.reason_lines.specs.Lines.{checksumLine}
-use Rattle.reason_lines.proofs.Lengths.{checksum-length}
+use Rattle.reason_lines.specs.Lines.{checksum_line}
+use Rattle.reason_lines.proofs.Lengths.{checksum_length}
 use borrow.Author.Rules.{rules}
 use Rattle.reason_lines.proofs.checksum_line.Statement.{statement}
 use Rattle.reason_lines.proofs.checksum_line.Tie as tie
@@ -26,7 +26,7 @@ room1 : (a : tie.After-put-text) → a.put-text.result + 10 ≤ length a.put-tex
 room1 a =
     let z =
     a.before.before.before.before in room-left _ _ _ _ _ _ a.put-text.ensures
-    (omega (arith, checksum-length z.args.carried z.args.computed, z.pre))
+    (omega (arith, checksum_length z.args.carried z.args.computed, z.pre))
 
 room2 : (b : tie.After-put-hex-word) → b.put-hex-word.result + 6 ≤ length b.put-hex-word.new.0
 room2 b = room-left _ _ _ _ _ _ b.put-hex-word.ensures (room1 (A b))
@@ -43,7 +43,7 @@ slice-aggregate-put-text : tie.Need-slice-aggregate-put-text
 slice-aggregate-put-text c = search rules
 
 put-text-requires : tie.Need-put-text-requires
-put-text-requires c κs = let z = c.before.before.before in omega (arith, checksum-length z.args.carried z.args.computed)
+put-text-requires c κs = let z = c.before.before.before in omega (arith, checksum_length z.args.carried z.args.computed)
 
 put-hex-word-requires : tie.Need-put-hex-word-requires
 put-hex-word-requires c κs = omega (arith, room1 c.before.before.before)
@@ -61,7 +61,7 @@ same_length : tie.Need-same-length
 same_length c = search rules
 
 returns : tie.Need-returns
-unfolding checksumLine
+unfolding checksum_line
 returns c =
     let e = c.before.before in
     let d = e.before.before.before.before in
@@ -69,7 +69,7 @@ returns c =
     let b = B (C d) in
     let middle = then b.put-hex-word.ensures (omega (arith, room1 (A b))) (then (C d).put_byte.ensures (omega (arith, room2 b)) last) in
     let z = (A b).before.before.before.before in
-    then (A b).put-text.ensures (omega (arith, checksum-length z.args.carried z.args.computed, z.pre)) middle
+    then (A b).put-text.ensures (omega (arith, checksum_length z.args.carried z.args.computed, z.pre)) middle
 
 pub checksum-line-spec : {M : Type 1} → statement M
 checksum-line-spec =

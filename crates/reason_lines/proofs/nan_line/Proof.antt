@@ -1,7 +1,7 @@
 -- `reason_lines::nan_line` meets its contract. The word and its number, and then the line's end. Assumes nothing.
 use native.Mathlib.Omega.{arith}
 use Rattle.text.proofs.Put.{then}
-use Rattle.reason_lines.specs.Lines.{nanLine}
+use Rattle.reason_lines.specs.Lines.{nan_line}
 use Rattle.reason_lines.proofs.Lengths.{nan-length}
 use borrow.Author.Rules.{rules}
 use Rattle.reason_lines.proofs.nan_line.Statement.{statement}
@@ -20,7 +20,7 @@ same_length : tie.Need-same-length
 same_length c = search rules
 
 returns : tie.Need-returns
-unfolding nanLine
+unfolding nan_line
 returns c =
     let done = c.before.before in
     let first = done.before.before.before.before in

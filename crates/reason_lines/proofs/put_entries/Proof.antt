@@ -7,7 +7,7 @@ use native.Mathlib.Omega.{arith}
 use lib.ListN.{length, get_or, drop, length-append}
 use Rattle.lists.specs.Below.{Below}
 use Rattle.text.proofs.Put.{Left, left-all, left_less, left-none}
-use Rattle.reason_lines.specs.Lines.{pairText, entries}
+use Rattle.reason_lines.specs.Lines.{pair_text, entries}
 use Rattle.reason_lines.proofs.Steps.{entries-more, entries_none}
 use borrow.Author.Rules.{rules}
 use Rattle.reason_lines.proofs.put_entries.Statement.{statement}
@@ -32,7 +32,7 @@ word l = (start l).args.word.now
 
 -- in a turn: the entry that comes next, and those after it
 more : (t : tie.In-loop invariant-loop decreases-loop) → let l = t.before in let i = l.loop.i in let p = get_or (positions l) i 0 in
-    entries (drop i (positions l)) (word l) ≡ pairText p (get_or (word l) p 0) ++ entries (drop (i + 1) (positions l)) (word l)
+    entries (drop i (positions l)) (word l) ≡ pair_text p (get_or (word l) p 0) ++ entries (drop (i + 1) (positions l)) (word l)
 more t = entries-more (positions t.before) (word t.before) t.before.loop.i t.loop-test.true
 
 -- ---- the needs

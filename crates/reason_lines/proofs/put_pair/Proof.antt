@@ -1,7 +1,7 @@
 -- `reason_lines::put_pair` meets its contract. A space and the position, a colon and the bit. Assumes nothing.
 use native.Mathlib.Omega.{arith}
 use Rattle.text.proofs.Put.{then}
-use Rattle.reason_lines.specs.Lines.{pairText}
+use Rattle.reason_lines.specs.Lines.{pair_text}
 use Rattle.reason_lines.proofs.Lengths.{pair-length}
 use borrow.Author.Rules.{rules}
 use Rattle.reason_lines.proofs.put_pair.Statement.{statement}
@@ -23,7 +23,7 @@ same_length : tie.Need-same-length
 same_length c = search rules
 
 returns : tie.Need-returns
-unfolding pairText
+unfolding pair_text
 returns c =
     let done = c.before.before in
     let first = done.before.before.before.before.before in

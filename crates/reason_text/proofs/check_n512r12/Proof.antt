@@ -1,5 +1,5 @@
 -- `reason_text::check_n512r12` meets its contract: the code's tables hold its checks. Assumes nothing.
-use Rattle.n512r12.proofs.Tables.{checkStarts0, checkBits0}
+use Rattle.n512r12.proofs.Tables.{check_starts0, check_bits0}
 use Rattle.reason_text.proofs.Tables.{tables0, asks, gives}
 use borrow.Author.Rules.{rules}
 use Rattle.reason_text.proofs.check_n512r12.Statement.{statement}
@@ -12,7 +12,7 @@ slice-aggregate-check-over-2 : tie.Need-slice-aggregate-check-over-2
 slice-aggregate-check-over-2 c = search rules
 
 check-over-requires : tie.Need-check-over-requires
-unfolding checkStarts0 checkBits0
+unfolding check_starts0 check_bits0
 check-over-requires c κs =
     let z = c.before.before.before.before.before in
     asks tables0 z.args.c z.args.word.now z.requires.0 z.requires.1.0 _ z.requires.1.1
@@ -21,7 +21,7 @@ same_length : tie.Need-same-length
 same_length c = search rules
 
 returns : tie.Need-returns
-unfolding checkStarts0 checkBits0
+unfolding check_starts0 check_bits0
 returns c =
     let done = c.before.before in
     let a = done.before.before.before.before.before.before.args in

@@ -1,5 +1,5 @@
 -- `reason_text::check_n576r23` meets its contract: the code's tables hold its checks. Assumes nothing.
-use Rattle.n576r23.proofs.Tables.{checkStarts1, checkBits1}
+use Rattle.n576r23.proofs.Tables.{check_starts1, check_bits1}
 use Rattle.reason_text.proofs.Tables.{tables1, asks, gives}
 use borrow.Author.Rules.{rules}
 use Rattle.reason_text.proofs.check_n576r23.Statement.{statement}
@@ -12,7 +12,7 @@ slice-aggregate-check-over-2 : tie.Need-slice-aggregate-check-over-2
 slice-aggregate-check-over-2 c = search rules
 
 check-over-requires : tie.Need-check-over-requires
-unfolding checkStarts1 checkBits1
+unfolding check_starts1 check_bits1
 check-over-requires c κs =
     let z = c.before.before.before.before.before in
     asks tables1 z.args.c z.args.word.now z.requires.0 z.requires.1.0 _ z.requires.1.1
@@ -21,7 +21,7 @@ same_length : tie.Need-same-length
 same_length c = search rules
 
 returns : tie.Need-returns
-unfolding checkStarts1 checkBits1
+unfolding check_starts1 check_bits1
 returns c =
     let done = c.before.before in
     let a = done.before.before.before.before.before.before.args in

@@ -5,8 +5,8 @@ use native.Mathlib.Omega.{arith}
 use lib.ListN.{length}
 use Rattle.first_reason.specs.declared.Reason.{Reason}
 use Rattle.first_reason.specs.declared.Reason.TheVariants.{Nan, Check, Checksum, Clean}
-use Rattle.numbered.specs.Codes.{checksBy}
-use Rattle.reason_lines.specs.Lines.{cleanLine, reasonLine, Named}
+use Rattle.numbered.specs.Codes.{checks_by}
+use Rattle.reason_lines.specs.Lines.{clean_line, reason_line, Named}
 use Rattle.reason_lines.proofs.Lengths.{reason-short}
 use Rattle.reason_text.proofs.Tables.{all_short, line_of}
 use borrow.Author.Rules.{rules}
@@ -19,8 +19,8 @@ abbrev entry : tie.After-shared-slice-known → tie.Start
 entry c = c.before.before
 
 -- the line of each reason has room
-short : (z : tie.Start) (r : Reason) → length (reasonLine (checksBy z.args.code) z.args.word.now r) ≤ length z.args.out.now
-short z r = let a = z.args in omega (arith, reason-short (checksBy a.code) a.word.now (all_short a.code) r, z.requires.1.1.1)
+short : (z : tie.Start) (r : Reason) → length (reason_line (checks_by z.args.code) z.args.word.now r) ≤ length z.args.out.now
+short z r = let a = z.args in omega (arith, reason-short (checks_by a.code) a.word.now (all_short a.code) r, z.requires.1.1.1)
 
 -- ---- the needs
 
@@ -37,7 +37,7 @@ check-line-requires : tie.Need-check-line-requires
 check-line-requires c κs =
     let told = c.before.before in
     let z = entry told.before.before in
-    (z.pre.0, (z.pre.1.0, (subst (Named (checksBy z.args.code)) told.reason2.given.1 z.pre.1.1.0, z.pre.1.1.1)))
+    (z.pre.0, (z.pre.1.0, (subst (Named (checks_by z.args.code)) told.reason2.given.1 z.pre.1.1.0, z.pre.1.1.1)))
 
 enum-known-reason-3 : tie.Need-enum-known-reason-3
 enum-known-reason-3 c = search rules
@@ -88,7 +88,7 @@ same-length-4 : tie.Need-same-length-4
 same-length-4 c = search rules
 
 returns-4 : tie.Need-returns-4
-unfolding cleanLine
+unfolding clean_line
 returns-4 c =
     let done = c.before.before in
     let told = done.before.before.before in

@@ -32,26 +32,26 @@ use denote.Triple.Statement.{Triple}
 use denote.Triple.Spec.{Meets, triple_of}
 use denote.Triple.Table.{entered, cited}
 use Rattle.refusal.specs.declared.Status.{Status}
-use Rattle.refusal.specs.Answers.{statusOf}
+use Rattle.refusal.specs.Answers.{status_of}
 use Rattle.refusal.proofs.Judged.{verdict}
 use Rattle.walks.proofs.Plain.{nat, datum, size, meant}
-use Rattle.walks.proofs.Args.{Arg, plainly, bound, typed, hands, Param, plain-param, shared-slice, stays, all_go, all-spell, all_tell, haves}
+use Rattle.walks.proofs.Args.{Arg, plainly, bound, typed, hands, Param, plain_param, shared-slice, stays, all_go, all-spell, all_tell, haves}
 use Rattle.walks.proofs.Calls.{Callee, calls}
 use Rattle.walks.proofs.Elements.{reads-element}
 use Rattle.walks.proofs.Frame.{empty, full, frame, Blocks, spots, begins, count, var, loc, args, sets, sets-as, sets_last, stores, stores-plain}
-use Rattle.walks.proofs.Frame.{forgets-from, returns-all, returns-early, goes-past}
+use Rattle.walks.proofs.Frame.{forgets_from, returns-all, returns-early, goes-past}
 use Rattle.walks.proofs.Lend.{Handle, handle, counted, Shared}
-use Rattle.walks.proofs.Loans.{Loan, hand, pass-slice, LastValues, own-args, gathers, scatters}
+use Rattle.walks.proofs.Loans.{Loan, hand, pass-slice, LastValues, own_args, gathers, scatters}
 use Rattle.walks.proofs.Walk.{Post, Walk, walking, meets-by}
 use Rattle.batch_refusals.specs.contracts.Seen as N
 use Rattle.batch_refusals.proofs.Seen.TheLaws as N'
 use Rattle.batch_refusals.specs.declared.Room.{Room}
 use Rattle.batch_refusals.specs.declared.Seen.{Seen}
 use Rattle.batch_refusals.specs.declared.Seen.TheVariants.{Until}
-use Rattle.numbered.specs.Codes.{sizeN}
-use Rattle.batch_refusals.specs.Refusals.{headRefusals, pairRefusals}
-use Rattle.batch_refusals.specs.Steps.{seenOf, nextSeen, seenAll}
-use Rattle.batch_refusals.proofs.Pairs.{seenFrom, seen-pairs}
+use Rattle.numbered.specs.Codes.{size_n}
+use Rattle.batch_refusals.specs.Refusals.{head_refusals, pair_refusals}
+use Rattle.batch_refusals.specs.Steps.{seen_of, next_seen, seen_all}
+use Rattle.batch_refusals.proofs.Pairs.{seen_from, seen-pairs}
 use Rattle.batch_refusals.specs.contracts.head_fault as head
 use Rattle.batch_refusals.proofs.head_fault.Symbol as head-def
 use Rattle.batch_refusals.proofs.head_fault.Symbol.{name as #batch-refusals·head-fault}
@@ -65,7 +65,7 @@ use Rattle.batch_refusals.proofs.seen_all.Symbol as all-def
 use Rattle.batch_refusals.proofs.seen_all.Symbol.{name as #batch-refusals·seen-all}
 use Rattle.batch_refusals.proofs.seen_all.Met as all-thm
 use Rattle.record_check.specs.declared.Pair.{Pair}
-use Rattle.record_check.specs.Fields.{pair_of, pairsOf, is_refused}
+use Rattle.record_check.specs.Fields.{pair_of, pairs_of, is_refused}
 use Rattle.record_check.proofs.Answers.{down, good, tells, one-checked, all-checked, refused-by, by-pairs}
 use Rattle.record_check.proofs.Types.{status, seen, room, pair, none}
 use Rattle.record_check.specs.contracts.next_record as next
@@ -82,14 +82,14 @@ use Rattle.record_check.proofs.batch_fault.Statement as stated
 use Rattle.record_check.proofs.batch_fault.Code as code_of_lem
 
 abbrev params : List (Param 1)
-params = plain-param (nat w32) ∷ plain-param (nat w32) ∷ plain-param (nat w64) ∷ shared-slice 0 tt pair.row ∷ plain-param room ∷ []
+params = plain_param (nat w32) ∷ plain_param (nat w32) ∷ plain_param (nat w64) ∷ shared-slice 0 tt pair.row ∷ plain_param room ∷ []
 
 -- ---- where the loop stands: i records are looked at
 record Turn (n values : ℕ) (ys : List Pair) : Type 0 where
   i : ℕ
   seen-so : Seen
   is : Is seen.row seen-so (seen.val seen-so ∷ [])
-  rest : seenFrom n values (seenOf seen-so) (drop i (pairsOf ys)) ≡ verdict (pairRefusals n values 0 (pairsOf ys))
+  rest : seen_from n values (seen_of seen-so) (drop i (pairs_of ys)) ≡ verdict (pair_refusals n values 0 (pairs_of ys))
 
 module _ {n values : ℕ} {ys : List Pair} where
   abbrev left : Turn n values ys → ℕ
@@ -99,9 +99,9 @@ module _ {n values : ℕ} {ys : List Pair} where
     abbrev this-one : Pair
     this-one = get_or ys t.i none
 
-    abbrev one_more : t.i < length ys → (z : Seen) → Is seen.row z (seen.val z ∷ []) → seenOf z ≡ nextSeen n values (seenOf t.seen-so) (pair_of this-one)
+    abbrev one_more : t.i < length ys → (z : Seen) → Is seen.row z (seen.val z ∷ []) → seen_of z ≡ next_seen n values (seen_of t.seen-so) (pair_of this-one)
         → Turn n values ys
-    one_more p z is e = record { i = t.i + 1; seen-so = z; is = is; rest = one-checked n values ys t.i (seenOf t.seen-so) p e t.rest }
+    one_more p z is e = record { i = t.i + 1; seen-so = z; is = is; rest = one-checked n values ys t.i (seen_of t.seen-so) p e t.rest }
 
 -- ---- the walk
 module _ {M : Type 1} {𝓤 : Ura M} (𝓛 : Logic 𝓤) (mem : Memory → SProp 𝓤) (run : Routine → Fun 𝓤) (𝓣 : Tables 𝓤 𝓛.H)
@@ -134,7 +134,7 @@ module _ {M : Type 1} {𝓤 : Ura M} (𝓛 : Logic 𝓤) (mem : Memory → SProp
       i = 0;
       seen-so = Until 0;
       is = owes N.the_type N'.the_laws (Until 0) ((refl, lit< tt), tt);
-      rest = seen-pairs n values 0 (pairsOf ys);
+      rest = seen-pairs n values 0 (pairs_of ys);
     }
 
     -- what is held at a turn: the locals and the records
@@ -146,22 +146,22 @@ module _ {M : Type 1} {𝓤 : Ura M} (𝓛 : Logic 𝓤) (mem : Memory → SProp
     abbrev lasts : LastValues mine
     lasts = (tt, (tt, (tt, (tt, (tt, tt)))))
 
-    walk : Walk 𝓛 this.ended (stays params) (this.clauses 𝓛 mem run) 𝓣 code_of_lem.function (bound (own-args mine)) tt
+    walk : Walk 𝓛 this.ended (stays params) (this.clauses 𝓛 mem run) 𝓣 code_of_lem.function (bound (own_args mine)) tt
     unfolding after_turn
-    walk = walking (λ end. begins ! (typed 𝓛 (own-args mine)) (λ bs. gathers ! mine $
+    walk = walking (λ end. begins ! (typed 𝓛 (own_args mine)) (λ bs. gathers ! mine $
         -- held: the locals and the records. The numbers and the lengths
         sets ! (of_opd ! (count 4 refl refl !)) tt (tt, record { fits = ys-fit.0 }) $
         calls 𝓛 (fm_of 𝓤 H 𝓛.laws 𝓣) head.ended (head.clauses 𝓛 mem run) known-head (bound to-head) tt (hands 𝓛 to-head) (id⊢ 𝓤 (emp 𝓤))
-        (λ s _. statusOf s ≡ verdict (headRefusals code rule (length ys) r)) (λ s _. id⊢ 𝓤 _) ! (args ! (loc 1 ∷ loc 2 ∷ loc 11 ∷ loc 5 ∷ []) refl) (λ v s _ h.
+        (λ s _. status_of s ≡ verdict (head_refusals code rule (length ys) r)) (λ s _. id⊢ 𝓤 _) ! (args ! (loc 1 ∷ loc 2 ∷ loc 11 ∷ loc 5 ∷ []) refl) (λ v s _ h.
         stores-plain ! status s h.0 tt refl $
         calls 𝓛 (fm_of 𝓤 H 𝓛.laws 𝓣) down-of.ended (down-of.clauses 𝓛 mem run) known-down
         (bound (plainly (datum status s (meant status s v h.0)) ∷ [])) tt
         (hands 𝓛 (plainly (datum status s (meant status s v h.0)) ∷ [])) (id⊢ 𝓤 (emp 𝓤))
-        (λ y _. y ≡ is_refused (statusOf s)) (λ y _. id⊢ 𝓤 _) ! (args ! (loc 6 ∷ []) refl) (λ w y _ d. elim (tells (statusOf s) y d.1) [
+        (λ y _. y ≡ is_refused (status_of s)) (λ y _. id⊢ 𝓤 _) ! (args ! (loc 6 ∷ []) refl) (λ w y _ d. elim (tells (status_of s) y d.1) [
           | down k is p ↦
               stores ! (ap only d.0 ∙ ap vbool p) tt (tt, tt) $
               returns-early ! (var ! refl) refl (status.typed 𝓛 s (meant status s v h.0)) tt tt $ scatters ! mine lasts $
-              by ! (end (status.val s) s lasts (haves 𝓛 params (bound (own-args mine)).0 (bound (own-args mine)).3 lasts (bound (own-args mine)).4)
+              by ! (end (status.val s) s lasts (haves 𝓛 params (bound (own_args mine)).0 (bound (own_args mine)).3 lasts (bound (own_args mine)).4)
               (status.makes 𝓛 s _ (meant status s v h.0)) lasts (fact_i 𝓤 _ (emp 𝓤) (refused-by code rule values ys r h.1 k is)))
           | good is p ↦
               stores ! (ap only d.0 ∙ ap vbool p) tt (tt, tt) $ goes-past ! (var ! refl) $
@@ -169,10 +169,10 @@ module _ {M : Type 1} {𝓤 : Ura M} (𝓛 : Logic 𝓤) (mem : Memory → SProp
               calls 𝓛 (fm_of 𝓤 H 𝓛.laws 𝓣) values_of.ended (values_of.clauses 𝓛 mem run) Known-values
               (bound (plainly (datum (nat w32) code code_is) ∷ [])) tt
               (hands 𝓛 (plainly (datum (nat w32) code code_is) ∷ [])) (id⊢ 𝓤 (emp 𝓤))
-              (λ n _. n ≡ sizeN code) (λ n _. id⊢ 𝓤 _) ! (args ! (loc 1 ∷ []) refl) (λ x n _ f.
+              (λ n _. n ≡ size_n code) (λ n _. id⊢ 𝓤 _) ! (args ! (loc 1 ∷ []) refl) (λ x n _ f.
               stores-plain ! (nat w64) n f.0 tt refl $
               sets ! (agg ! (and_then ! (lit ! tt) (and_then ! (lit ! tt) (no_more !)))) tt (tt, (record { fits = lit< tt }, (record { fits = lit< tt }, tt))) $
-              sets ! (of_opd ! (lit ! tt)) tt (tt, record { fits = lit< tt }) $ forgets-from ! 10 $
+              sets ! (of_opd ! (lit ! tt)) tt (tt, record { fits = lit< tt }) $ forgets_from ! 10 $
               first ! $ blocks ! $ loops ! 𝓣 (λ a b. left a < left b) (InvImage.wf left lt-wf_rel.wf) (At bs s n) (λ t. elim (dec_lt t.i (length ys)) [
                 | yes q ↦
                     sets ! (of_opd ! (count 4 refl refl !)) tt (tt, record { fits = ys-fit.0 }) $
@@ -180,27 +180,27 @@ module _ {M : Type 1} {𝓤 : Ura M} (𝓛 : Logic 𝓤) (mem : Memory → SProp
                     -- a record is read, and goes to `next_record`
                     reads-element pair pairs ys t.i none ! q ys-fit tt refl (λ g.
                     calls 𝓛 (fm_of 𝓤 H 𝓛.laws 𝓣) next.ended (next.clauses 𝓛 mem run) known_next (bound (to-next n f.0.1 t g)) tt
-                    (hands 𝓛 (to-next n f.0.1 t g)) (id⊢ 𝓤 (emp 𝓤)) (λ z _. seenOf z ≡ nextSeen n values (seenOf t.seen-so) (pair_of (this-one t)))
+                    (hands 𝓛 (to-next n f.0.1 t g)) (id⊢ 𝓤 (emp 𝓤)) (λ z _. seen_of z ≡ next_seen n values (seen_of t.seen-so) (pair_of (this-one t)))
                     (λ z _. id⊢ 𝓤 _) ! (args ! (loc 8 ∷ loc 7 ∷ loc 3 ∷ loc 10 ∷ []) refl) (λ u z _ e.
                     stores-plain ! seen z e.0 tt refl $
                     sets_last ! (bin ! (var ! refl) (lit ! tt) (record { fits = omega (arith, q, ys-fit.0) })) refl tt
                     (tt, record { fits = omega (arith, q, ys-fit.0) }) $
-                    forgets-from ! 10 $ again ! (λ a b. left a < left b) (At bs s n) t (one_more t q z (meant seen z u e.0) e.1) (omega (arith, q))))
+                    forgets_from ! 10 $ again ! (λ a b. left a < left b) (At bs s n) t (one_more t q z (meant seen z u e.0) e.1) (omega (arith, q))))
                 | no q ↦
                     sets ! (of_opd ! (count 4 refl refl !)) tt (tt, record { fits = ys-fit.0 }) $
                     sets-as ! (bin ! (var ! refl) (var ! refl) tt) (ap vbool (le-ltb t.i (length ys) (omega (arith, q)))) tt (tt, tt) $
                     leaves_loop ! (var ! refl) $ exec ! 𝓣.C 𝓣.Λ (spots (code_of_lem.function).locals bs) code_of_lem.Mir.t-9
                     (at_ret (spots (code_of_lem.function).locals bs)
-                    (Post 𝓛 this.ended (stays params) (this.clauses 𝓛 mem run) (bound (own-args mine)) tt)) $
+                    (Post 𝓛 this.ended (stays params) (this.clauses 𝓛 mem run) (bound (own_args mine)) tt)) $
                     calls 𝓛 (fm_of 𝓤 H 𝓛.laws 𝓣) all.ended (all.clauses 𝓛 mem run) known-all (bound (plainly (datum seen t.seen-so t.is) ∷ [])) tt
                     (hands 𝓛 (plainly (datum seen t.seen-so t.is) ∷ [])) (id⊢ 𝓤 (emp 𝓤))
-                    (λ z _. statusOf z ≡ seenAll (seenOf t.seen-so)) (λ z _. id⊢ 𝓤 _) ! (args ! (loc 8 ∷ []) refl) (λ u z _ e.
+                    (λ z _. status_of z ≡ seen_all (seen_of t.seen-so)) (λ z _. id⊢ 𝓤 _) ! (args ! (loc 8 ∷ []) refl) (λ u z _ e.
                     stores-plain ! status z e.0 tt refl $ returns-all ! refl tt $ scatters ! mine lasts $
                     by ! (end (status.val z) z lasts
-                    (haves 𝓛 params (bound (own-args mine)).0 (bound (own-args mine)).3 lasts (bound (own-args mine)).4)
+                    (haves 𝓛 params (bound (own_args mine)).0 (bound (own_args mine)).3 lasts (bound (own_args mine)).4)
                     (status.makes 𝓛 z _ (meant status z u e.0)) lasts
                     (fact_i 𝓤 _ (emp 𝓤)
-                    (by-pairs code rule values ys r h.1 is f.1 (e.1 ∙ all-checked n values ys t.i (seenOf t.seen-so) q t.rest)))))
+                    (by-pairs code rule values ys r h.1 is f.1 (e.1 ∙ all-checked n values ys t.i (seen_of t.seen-so) q t.rest)))))
               ]) (begun n))
         ]))))
 

@@ -24,24 +24,24 @@ use denote.Struct.Laws.{owes}
 use denote.Triple.Statement.{Triple}
 use denote.Triple.Spec.{Meets, triple_of}
 use denote.Triple.Table.{entered, cited}
-use Rattle.refusal.specs.Answers.{statusOf}
+use Rattle.refusal.specs.Answers.{status_of}
 use Rattle.refusal.proofs.Judged.{verdict}
 use Rattle.walks.proofs.Plain.{nat, nothing, datum, meant}
 use Rattle.walks.proofs.Args.{plainly, bound, typed, hands, stays, all_go, all-spell, all_tell, haves}
 use Rattle.walks.proofs.Calls.{Callee, calls}
 use Rattle.walks.proofs.Frame.{begins, count, var, loc, args, sets, stores, stores-plain, passes_on, returns-all, returns-early, goes-past}
-use Rattle.walks.proofs.Loans.{Loan, hand, give, pass-slice, lent-args, takes, calls-lent, own-args, gathers, scatters}
+use Rattle.walks.proofs.Loans.{Loan, hand, give, pass-slice, lent_args, takes, calls_lent, own_args, gathers, scatters}
 use Rattle.walks.proofs.Walk.{Walk, walking, meets-by}
 use Rattle.batch_refusals.specs.contracts.Room as R
 use Rattle.batch_refusals.proofs.Room.TheLaws as R'
-use Rattle.batch.specs.Calls.{Lent, Batch, roomOf, refusals, written}
+use Rattle.batch.specs.Calls.{Lent, Batch, room_of, refusals, written}
 use Rattle.batch.proofs.Whole.{fitting}
 use Rattle.record_check.specs.declared.Pair.{Pair}
 use Rattle.record_check.specs.Fields.{is_refused}
 use Rattle.record_check.proofs.Answers.{down, good, tells}
 use Rattle.records.proofs.Answers.{turned-down-by, carried-out-by}
 use Rattle.record_check.proofs.Types.{status, room, pair}
-use Rattle.records.proofs.Lists.{params, Numbers, Handles, Sizes, handed, mine, left, lasts-of, all-lasts, numbers_of, handles, contents, sizes-of}
+use Rattle.records.proofs.Lists.{params, Numbers, Handles, Sizes, handed, mine, left, lasts_of, all-lasts, numbers_of, handles, contents, sizes-of}
 use Rattle.record_check.specs.contracts.turned_down as down-of
 use Rattle.record_check.proofs.turned_down.Symbol as down-def
 use Rattle.record_check.proofs.turned_down.Symbol.{name as #record-check·turned-down}
@@ -73,16 +73,16 @@ module _ {M : Type 1} {𝓤 : Ura M} (𝓛 : Logic 𝓤) (mem : Memory → SProp
     abbrev own : List Loan
     own = mine n h sizes m
 
-    room-is : Is room.row (roomOf m) (room.val (roomOf m) ∷ [])
-    room-is = owes R.the_type R'.the_laws (roomOf m)
+    room-is : Is room.row (room_of m) (room.val (room_of m) ∷ [])
+    room-is = owes R.the_type R'.the_laws (room_of m)
         ((refl, sizes.bits), ((refl, sizes.counts), ((refl, sizes.rounds), ((refl, sizes.firsts), ((refl, sizes.work), tt)))))
 
     abbrev to-fault : List Loan
     to-fault = hand (datum (nat w32) n.code n.code_is) ∷ hand (datum (nat w32) n.rule n.rule-is) ∷ give (length vs) sizes.values
-        ∷ pass-slice pair.row h.pairs (length ys) sizes.pairs.0 ys ∷ hand (datum room (roomOf m) room-is) ∷ []
+        ∷ pass-slice pair.row h.pairs (length ys) sizes.pairs.0 ys ∷ hand (datum room (room_of m) room-is) ∷ []
 
-    walk : Walk 𝓛 this.ended (stays params) (this.clauses 𝓛 mem run) 𝓣 code_of_lem.function (bound (own-args own)) tt
-    walk = walking (λ end. begins ! (typed 𝓛 (own-args own)) (λ bs. gathers ! own $
+    walk : Walk 𝓛 this.ended (stays params) (this.clauses 𝓛 mem run) 𝓣 code_of_lem.function (bound (own_args own)) tt
+    walk = walking (λ end. begins ! (typed 𝓛 (own_args own)) (λ bs. gathers ! own $
         -- how many places are lent
         sets ! (of_opd ! (count 7 refl refl !)) tt (tt, record { fits = sizes.bits }) $ sets ! (of_opd ! (count 8 refl refl !)) tt
         (tt, record { fits = sizes.counts }) $
@@ -91,24 +91,24 @@ module _ {M : Type 1} {𝓤 : Ura M} (𝓛 : Logic 𝓤) (mem : Memory → SProp
         sets ! (of_opd ! (count 11 refl refl !)) tt (tt, record { fits = sizes.work }) $
         sets ! (agg !
         (and_then ! (var ! refl) (and_then ! (var ! refl) (and_then ! (var ! refl) (and_then ! (var ! refl) (and_then ! (var ! refl) (no_more !))))))) tt
-        (room.typed 𝓛 (roomOf m) room-is) $
+        (room.typed 𝓛 (room_of m) room-is) $
         sets ! (of_opd ! (count 5 refl refl !)) tt (tt, record { fits = sizes.values }) $
         -- the check
         move ! (0 ∷ 2 ∷ []) $
-        calls-lent 𝓛 (fm_of 𝓤 H 𝓛.laws 𝓣) fault.ended (fault.clauses 𝓛 mem run) known-fault to-fault
-        (takes (λ ν. bound (lent-args to-fault ν)) (λ ν. tt) (λ ν. hands 𝓛 (lent-args to-fault ν)) (λ ν ws. ws) (λ ν. refl) (λ ν ws. refl))
-        (λ ν. id⊢ 𝓤 (emp 𝓤)) (λ ν s _. statusOf s ≡ verdict (refusals B)) (λ ν s _. id⊢ 𝓤 _)
+        calls_lent 𝓛 (fm_of 𝓤 H 𝓛.laws 𝓣) fault.ended (fault.clauses 𝓛 mem run) known-fault to-fault
+        (takes (λ ν. bound (lent_args to-fault ν)) (λ ν. tt) (λ ν. hands 𝓛 (lent_args to-fault ν)) (λ ν ws. ws) (λ ν. refl) (λ ν ws. refl))
+        (λ ν. id⊢ 𝓤 (emp 𝓤)) (λ ν s _. status_of s ≡ verdict (refusals B)) (λ ν s _. id⊢ 𝓤 _)
         ! (λ ν. args ! (loc 1 ∷ loc 2 ∷ loc 14 ∷ loc 6 ∷ loc 12 ∷ []) refl) (λ ν v s _ e _. stores-plain ! status s e.0 tt refl $
         calls 𝓛 (fm_of 𝓤 H 𝓛.laws 𝓣) down-of.ended (down-of.clauses 𝓛 mem run) known-down
         (bound (plainly (datum status s (meant status s v e.0)) ∷ [])) tt
         (hands 𝓛 (plainly (datum status s (meant status s v e.0)) ∷ [])) (id⊢ 𝓤 (emp 𝓤))
-        (λ y _. y ≡ is_refused (statusOf s)) (λ y _. id⊢ 𝓤 _) ! (args ! (loc 13 ∷ []) refl) (λ u y _ d. elim (tells (statusOf s) y d.1) [
+        (λ y _. y ≡ is_refused (status_of s)) (λ y _. id⊢ 𝓤 _) ! (args ! (loc 13 ∷ []) refl) (λ u y _ d. elim (tells (status_of s) y d.1) [
           | down k is p ↦
               stores ! (ap only d.0 ∙ ap vbool p) tt (tt, tt) $
               returns-early ! (var ! refl) refl (status.typed 𝓛 s (meant status s v e.0)) tt tt $ move ! (1 ∷ 0 ∷ []) $ scatters ! own
-              (all-lasts (lasts-of m)) $
-              by ! (end (status.val s) s (all-lasts (lasts-of m))
-              (haves 𝓛 params (bound (own-args own)).0 (bound (own-args own)).3 (all-lasts (lasts-of m)) (bound (own-args own)).4)
+              (all-lasts (lasts_of m)) $
+              by ! (end (status.val s) s (all-lasts (lasts_of m))
+              (haves 𝓛 params (bound (own_args own)).0 (bound (own_args own)).3 (all-lasts (lasts_of m)) (bound (own_args own)).4)
               (status.makes 𝓛 s _ (meant status s v e.0)) (tt, (tt, (tt, (tt, (tt, (tt, (refl, (refl, (refl, (refl, (refl, tt)))))))))))
               (fact_i 𝓤 _ (emp 𝓤) (turned-down-by B e.1 k is)))
           | good is p ↦
@@ -116,15 +116,15 @@ module _ {M : Type 1} {𝓤 : Ura M} (𝓛 : Logic 𝓤) (mem : Memory → SProp
               -- the frames
               passes_on ! refl tt tt sizes.bits $ passes_on ! refl tt tt sizes.counts $ passes_on ! refl tt tt sizes.rounds $
               passes_on ! refl tt tt sizes.firsts $ passes_on ! refl tt tt sizes.work $ move ! (0 ∷ 2 ∷ []) $
-              calls-lent 𝓛 (fm_of 𝓤 H 𝓛.laws 𝓣) frames.ended (frames.clauses 𝓛 mem run) known-frames own
-              (takes (λ ν. bound (lent-args own ν)) (λ ν. tt) (λ ν. hands 𝓛 (lent-args own ν)) (λ ν ws. ws) (λ ν. refl) (λ ν ws. refl))
+              calls_lent 𝓛 (fm_of 𝓤 H 𝓛.laws 𝓣) frames.ended (frames.clauses 𝓛 mem run) known-frames own
+              (takes (λ ν. bound (lent_args own ν)) (λ ν. tt) (λ ν. hands 𝓛 (lent_args own ν)) (λ ν ws. ws) (λ ν. refl) (λ ν ws. refl))
               (λ ν. fact_i 𝓤 _ (emp 𝓤) (fitting B (sym e.1 ∙ is))) (λ ν _ ws. left ws.1.1.1.1.1.1 ≡ written B) (λ ν _ ws. id⊢ 𝓤 _)
               ! (λ ν. args ! (loc 1 ∷ loc 2 ∷ loc 3 ∷ loc 4 ∷ loc 5 ∷ loc 6 ∷ loc 22 ∷ loc 24 ∷ loc 26 ∷ loc 28 ∷ loc 30 ∷ []) refl)
               (λ ν x _ ws f same. stores-plain ! nothing tt f.0 tt refl $
               sets ! (of_opd ! (var ! refl)) tt (status.typed 𝓛 s (meant status s v e.0)) $ returns-all ! refl tt $
               scatters ! own (all-lasts ws.1.1.1.1.1.1) $
               by ! (end (status.val s) s (all-lasts ws.1.1.1.1.1.1)
-              (haves 𝓛 params (bound (own-args own)).0 (bound (own-args own)).3 (all-lasts ws.1.1.1.1.1.1) (bound (own-args own)).4)
+              (haves 𝓛 params (bound (own_args own)).0 (bound (own_args own)).3 (all-lasts ws.1.1.1.1.1.1) (bound (own_args own)).4)
               (status.makes 𝓛 s _ (meant status s v e.0)) (tt, (tt, (tt, (tt, (tt, (tt, same.1.1))))))
               (fact_i 𝓤 _ (emp 𝓤) (carried-out-by B e.1 is _ f.1))))
         ]))))

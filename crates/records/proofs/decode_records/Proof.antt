@@ -34,22 +34,22 @@ use Rattle.walks.proofs.Args.{bound, typed, hands, stays, all_go, all-spell, all
 use Rattle.walks.proofs.Calls.{Callee}
 use Rattle.walks.proofs.Elements.{reads-element}
 use Rattle.walks.proofs.Frame.{empty, full, frame, Blocks, spots, begins, count, var, loc, args, sets, sets-as, sets_last, stores-plain, passes_on}
-use Rattle.walks.proofs.Frame.{forgets-from, returns-all}
+use Rattle.walks.proofs.Frame.{forgets_from, returns-all}
 use Rattle.walks.proofs.Lend.{counted}
-use Rattle.walks.proofs.Loans.{Loan, hand, give, lend-slice, LastValues, held, lent-args, takes, calls-lent, own-args, gathers, scatters}
+use Rattle.walks.proofs.Loans.{Loan, hand, give, lend-slice, LastValues, held, lent_args, takes, calls_lent, own_args, gathers, scatters}
 use Rattle.walks.proofs.Walk.{Post, Walk, walking, meets-by}
-use Rattle.batch.specs.Codes.{sizeN, sizeK}
+use Rattle.batch.specs.Codes.{size_n, size_k}
 use Rattle.batch.specs.Pairs as named
-use Rattle.batch.specs.Calls.{Lent, lent, Batch, batch, frameDecode, written}
+use Rattle.batch.specs.Calls.{Lent, lent, Batch, batch, frame_decode, written}
 use Rattle.batch.specs.Steps.{Fitting, PlaceFits, placed}
 use Rattle.work_area.specs.Area.{cleared}
-use Rattle.batch.proofs.Frames.{offsetAt, Going, going-none, going-fits, going_more, going_done}
+use Rattle.batch.proofs.Frames.{offset_at, Going, going-none, going-fits, going_more, going_done}
 use Rattle.work_area.specs.contracts.clear_area as clear
 use Rattle.work_area.proofs.clear_area.Symbol as clear-def
 use Rattle.work_area.proofs.clear_area.Symbol.{name as #work-area·clear-area}
 use Rattle.work_area.proofs.clear_area.Met as clear-thm
 use Rattle.record_check.specs.declared.Pair.{Pair}
-use Rattle.record_check.specs.Fields.{pair_of, pairsOf}
+use Rattle.record_check.specs.Fields.{pair_of, pairs_of}
 use Rattle.record_check.proofs.Types.{pair, none}
 use Rattle.records.proofs.Lists.{
   params,
@@ -61,7 +61,7 @@ use Rattle.records.proofs.Lists.{
   numbered,
   mine,
   left,
-  lasts-of,
+  lasts_of,
   all-lasts,
   numbers_of,
   handles,
@@ -93,18 +93,18 @@ module _ (n : Numbers) (vs : List Float) (ys : List Pair) (m : Lent) where
 
   -- the memory with the frame from an offset on at place j
   abbrev frame-placed : Turn b → ℕ → Lent
-  frame-placed t o = placed (frameDecode b (named.frame_of vs (named.pair o (sizeN n.code)))) n.limit (sizeK n.code) t.j t.memory
+  frame-placed t o = placed (frame_decode b (named.frame_of vs (named.pair o (size_n n.code)))) n.limit (size_k n.code) t.j t.memory
 
   module _ (fit : Fitting b) (t : Turn b) where
     abbrev offset : ℕ
     offset = (get_or ys t.j none).offset
 
-    offset-is : offsetAt (pairsOf ys) t.j ≡ offset
+    offset-is : offset_at (pairs_of ys) t.j ≡ offset
     offset-is = ap (λ (p : named.Pair). p.offset) (get_or-map pair_of ys t.j none)
 
     -- while a record is left
     module _ (p : t.j < length ys) where
-      there : t.j < length (pairsOf ys)
+      there : t.j < length (pairs_of ys)
       there = simp length-map p
 
       ready : PlaceFits n.code offset t.j vs t.memory
@@ -158,14 +158,14 @@ module _ {M : Type 1} {𝓤 : Ura M} (𝓛 : Logic 𝓤) (mem : Memory → SProp
 
     -- the last values, where the work area has w
     abbrev lasts : Lent → List Float → LastValues (own m)
-    lasts l w = all-lasts (lasts-of (lent l.bits l.counts l.rounds l.firsts w))
+    lasts l w = all-lasts (lasts_of (lent l.bits l.counts l.rounds l.firsts w))
 
     abbrev begun : Turn B
     begun = record { j = 0; memory = m; going = going-none fit }
 
-    walk : Walk 𝓛 this.ended (stays params) (this.clauses 𝓛 mem run) 𝓣 code_of_lem.function (bound (own-args (own m))) tt
+    walk : Walk 𝓛 this.ended (stays params) (this.clauses 𝓛 mem run) 𝓣 code_of_lem.function (bound (own_args (own m))) tt
     unfolding after_turn
-    walk = walking (λ end. begins ! (typed 𝓛 (own-args (own m))) (λ bs. gathers ! (own m) $
+    walk = walking (λ end. begins ! (typed 𝓛 (own_args (own m))) (λ bs. gathers ! (own m) $
         sets ! (of_opd ! (lit ! tt)) tt (tt, record { fits = lit< tt }) $
         first ! $ blocks ! $ loops ! 𝓣 (λ x y. left_over x < left_over y) (InvImage.wf left_over lt-wf_rel.wf) (At bs)
         (λ t. elim (dec_lt t.j (length ys)) [
@@ -177,8 +177,8 @@ module _ {M : Type 1} {𝓤 : Ura M} (𝓛 : Logic 𝓤) (mem : Memory → SProp
               -- and the lists are lent to `decode_record`
               passes_on ! refl tt tt sizes.bits $ passes_on ! refl tt tt sizes.counts $ passes_on ! refl tt tt sizes.rounds $
               passes_on ! refl tt tt sizes.firsts $ passes_on ! refl tt tt sizes.work $ move ! (0 ∷ 2 ∷ 3 ∷ 4 ∷ 5 ∷ 6 ∷ 7 ∷ []) $
-              calls-lent 𝓛 (fm_of 𝓤 H 𝓛.laws 𝓣) place.ended (place.clauses 𝓛 mem run) known-place (to-place t p g)
-              (takes (λ ν. bound (lent-args (to-place t p g) ν)) (λ ν. tt) (λ ν. hands 𝓛 (lent-args (to-place t p g) ν)) (λ ν ws. ws) (λ ν. refl)
+              calls_lent 𝓛 (fm_of 𝓤 H 𝓛.laws 𝓣) place.ended (place.clauses 𝓛 mem run) known-place (to-place t p g)
+              (takes (λ ν. bound (lent_args (to-place t p g) ν)) (λ ν. tt) (λ ν. hands 𝓛 (lent_args (to-place t p g) ν)) (λ ν ws. ws) (λ ν. refl)
               (λ ν ws. refl))
               (λ ν. fact_i 𝓤 _ (emp 𝓤) (ready n vs ys m fit t p))
               (λ ν _ ws. emptied n vs ys m (left ws.1.1.1.1.1.1.1)
@@ -187,7 +187,7 @@ module _ {M : Type 1} {𝓤 : Ura M} (𝓛 : Logic 𝓤) (mem : Memory → SProp
               (λ ν v _ ws e same. stores-plain ! nothing tt e.0 tt refl $ move ! (0 ∷ 1 ∷ 7 ∷ []) $
               sets_last ! (bin ! (var ! refl) (lit ! tt) (record { fits = omega (arith, p, sizes.pairs.0) })) refl tt
               (tt, record { fits = omega (arith, p, sizes.pairs.0) }) $
-              forgets-from ! 13 $ again ! (λ x y. left_over x < left_over y) (At bs) t
+              forgets_from ! 13 $ again ! (λ x y. left_over x < left_over y) (At bs) t
               (one_more n vs ys m fit t p (left ws.1.1.1.1.1.1.1) e.1 same.1.0 same.1.1.1.1.1.0)
               (omega (arith, there n vs ys m fit t p))))
           | no p ↦
@@ -195,18 +195,18 @@ module _ {M : Type 1} {𝓤 : Ura M} (𝓛 : Logic 𝓤) (mem : Memory → SProp
               sets-as ! (bin ! (var ! refl) (var ! refl) tt) (ap vbool (le-ltb t.j (length ys) (omega (arith, p)))) tt (tt, tt) $ leaves_loop !
               (var ! refl) $
               exec ! 𝓣.C 𝓣.Λ (spots (code_of_lem.function).locals bs) code_of_lem.Mir.t-3
-              (at_ret (spots (code_of_lem.function).locals bs) (Post 𝓛 this.ended (stays params) (this.clauses 𝓛 mem run) (bound (own-args (own m))) tt)) $
+              (at_ret (spots (code_of_lem.function).locals bs) (Post 𝓛 this.ended (stays params) (this.clauses 𝓛 mem run) (bound (own_args (own m))) tt)) $
               -- the work area is cleared
               passes_on ! refl tt tt sizes.work $ move ! (0 ∷ 7 ∷ []) $
-              calls-lent 𝓛 (fm_of 𝓤 H 𝓛.laws 𝓣) clear.ended (clear.clauses 𝓛 mem run) known-clear (to_clear t.memory)
-              (takes (λ ν. bound (lent-args (to_clear t.memory) ν)) (λ ν. tt) (λ ν. hands 𝓛 (lent-args (to_clear t.memory) ν)) (λ ν ws. ws)
+              calls_lent 𝓛 (fm_of 𝓤 H 𝓛.laws 𝓣) clear.ended (clear.clauses 𝓛 mem run) known-clear (to_clear t.memory)
+              (takes (λ ν. bound (lent_args (to_clear t.memory) ν)) (λ ν. tt) (λ ν. hands 𝓛 (lent_args (to_clear t.memory) ν)) (λ ν ws. ws)
               (λ ν. refl) (λ ν ws. refl))
               (λ ν. fact_i 𝓤 _ (emp 𝓤) (omega (arith, fit.area, t.going.wide))) (λ ν _ ws. ws.0 ≡ cleared t.memory.work) (λ ν _ ws. id⊢ 𝓤 _)
               ! (λ ν. args ! (loc 31 ∷ []) refl) (λ ν v _ ws e same. stores-plain ! nothing tt e.0 tt refl $
               sets ! (of_opd ! (unit_lit !)) tt (tt, tt) $ returns-all ! refl tt $ move ! (1 ∷ 2 ∷ 3 ∷ 4 ∷ 5 ∷ 6 ∷ 0 ∷ []) $
               scatters ! (own m) (lasts t.memory ws.0) $
               by ! (end vunit tt (lasts t.memory ws.0)
-              (haves 𝓛 params (bound (own-args (own m))).0 (bound (own-args (own m))).3 (lasts t.memory ws.0) (bound (own-args (own m))).4)
+              (haves 𝓛 params (bound (own_args (own m))).0 (bound (own_args (own m))).3 (lasts t.memory ws.0) (bound (own_args (own m))).4)
               (nothing.makes 𝓛 tt _ refl) (
                 tt,
                 (
@@ -241,7 +241,7 @@ module _ {M : Type 1} {𝓤 : Ura M} (𝓛 : Logic 𝓤) (mem : Memory → SProp
   meets : Meets 𝓛 this.signature (WpFn 𝓤 H 𝓣.C 𝓣.Λ code_of_lem.function) (this.spec 𝓛 mem run)
   meets = meets-by 𝓛 this.ended (stays params) (this.clauses 𝓛 mem run) 𝓣 code_of_lem.function (all-spell params) (all_tell params) (all_go 𝓛 params)
       (λ κs a. Fitting
-      (batch a.0 a.1.0 a.1.1.0 a.1.1.1.0 a.1.1.1.1.0.now (pairsOf a.1.1.1.1.1.0.now) (contents a.1.1.1.1)))
+      (batch a.0 a.1.0 a.1.1.0 a.1.1.1.0 a.1.1.1.1.0.now (pairs_of a.1.1.1.1.1.0.now) (contents a.1.1.1.1)))
       (λ κs a g. id⊢ 𝓤 _)
       (λ κs qs _ a g are ok. walk (numbers_of a.0 a.1.0 a.1.1.0 a.1.1.1.0 are.0 are.1.0 are.1.1.0 are.1.1.1.0)
       (handles a.1.1.1.1 κs qs) a.1.1.1.1.0.now a.1.1.1.1.1.0.now (contents a.1.1.1.1)

@@ -9,23 +9,23 @@ use native.Mathlib.Omega.{arith}
 use lib.Ieee.{Float}
 use lib.ListN.{length, take}
 use Rattle.tanner.specs.Checks.{Word}
-use Rattle.tanner.specs.Found.{syndromeOf}
-use Rattle.passes.specs.Codes.{sizeN, sizeM, degree, room}
+use Rattle.tanner.specs.Found.{syndrome_of}
+use Rattle.passes.specs.Codes.{size_n, size_m, degree, room}
 use Rattle.one_round.specs.Round.{Decode}
-use Rattle.rounds.specs.Rounds.{wordsFrom, chosenFrom, better}
-use Rattle.one_round.specs.Held.{HeldBy, decodeAt}
+use Rattle.rounds.specs.Rounds.{words_from, chosen_from, better}
+use Rattle.one_round.specs.Held.{HeldBy, decode_at}
 use Rattle.rounds.specs.Run.{Kept}
-use Rattle.rounds.proofs.Loop.{Running, round-found, kept-better, kept_same, round-on, round-out, rounds-out}
+use Rattle.rounds.proofs.Loop.{Running, round-found, kept-better, kept_same, round-on, round-out, rounds_out}
 use borrow.Author.Rules.{rules}
 use Rattle.rounds.proofs.rounds.Statement.{statement}
 use Rattle.rounds.proofs.rounds.Tie as tie
 
 abbrev invariant-loop : tie.invariant-loop
-invariant-loop code rule limit llr messages₀ hard₀ bits₀ kept₀ done₀ messages hard bits kept done = let d = decodeAt code rule llr in
-    (done ≤ limit) × (length messages ≡ room code) × (length hard ≡ sizeN code) × (length bits ≡ length bits₀)
+invariant-loop code rule limit llr messages₀ hard₀ bits₀ kept₀ done₀ messages hard bits kept done = let d = decode_at code rule llr in
+    (done ≤ limit) × (length messages ≡ room code) × (length hard ≡ size_n code) × (length bits ≡ length bits₀)
     × ((ms : List Float) → HeldBy code messages₀ ms
-    → Running d (sizeM code) (degree code) (length bits₀) (limit - done) messages bits kept done (chosenFrom d.checks hard₀ (wordsFrom d limit ms))
-    (length (wordsFrom d limit ms)))
+    → Running d (size_m code) (degree code) (length bits₀) (limit - done) messages bits kept done (chosen_from d.checks hard₀ (words_from d limit ms))
+    (length (words_from d limit ms)))
 
 abbrev decreases-loop : tie.decreases-loop
 decreases-loop code rule limit llr messages₀ hard₀ bits₀ kept₀ done₀ messages hard bits kept done = limit - done
@@ -50,16 +50,16 @@ met j = j.before.before.before.before.before.before
 
 -- what is decoded; the word and the messages that the round left
 abbrev d : Loop → Decode
-d l = let a = (entry l).args in decodeAt a.code a.rule a.llr.now
+d l = let a = (entry l).args in decode_at a.code a.rule a.llr.now
 
 abbrev word : Round → Word
 word r = r.round.last.1.1.1.1.0
 
 abbrev goal : Loop → List Float → Word
-goal l ms = let a = (entry l).args in chosenFrom (d l).checks a.hard.now (wordsFrom (d l) a.limit ms)
+goal l ms = let a = (entry l).args in chosen_from (d l).checks a.hard.now (words_from (d l) a.limit ms)
 
 abbrev all : Loop → List Float → ℕ
-all l ms = length (wordsFrom (d l) (entry l).args.limit ms)
+all l ms = length (words_from (d l) (entry l).args.limit ms)
 
 -- the work area at the entry holds ms
 abbrev Held : Loop → List Float → Type 0
@@ -67,7 +67,7 @@ Held l ms = let a = (entry l).args in HeldBy a.code a.messages.now ms
 
 -- the running state at the turn's start, with the round counted off
 running : (j : tie.Joined1 invariant-loop decreases-loop) (ms : List Float) → let l = turn (met j) in Held l ms → let a = (entry l).args in
-    Running (d l) (sizeM a.code) (degree a.code) (length a.bits.now) (suc (a.limit - (l.loop.done + 1))) l.loop.messages l.loop.bits
+    Running (d l) (size_m a.code) (degree a.code) (length a.bits.now) (suc (a.limit - (l.loop.done + 1))) l.loop.messages l.loop.bits
     l.loop.kept
     l.loop.done (goal l ms) (all l ms)
 running j ms h =
@@ -91,7 +91,7 @@ kept_at j ms h =
     let done = r.round.ensures.0 s.ms s.holds in
     ⊎_elim
     (λ w. kept-better _ _ _ _ _ _ _ _ _ s.held done.counted w.0.taken (w.8 ∙ w.3.ensures ∙ ap (λ (n : ℕ). take n (word r)) k)
-    (ap syndromeOf w.9 ∙ round-found _ _ _ _ _ _ _ done w.7.result w.7.ensures))
+    (ap syndrome_of w.9 ∙ round-found _ _ _ _ _ _ _ done w.7.result w.7.ensures))
     (λ w. kept_same _ _ _ _ _ _ _ _ _ s.held done.counted w.0.left w.1 w.2)
     j.if1.branch
 
@@ -156,7 +156,7 @@ returns c =
     λ ms h.
     let l = c.before in
     let e : (entry l).args.limit - l.loop.done ≡ 0 = omega arith in
-    let out = rounds-out _ _ _ _ _ _ _ _ _ _ (rw e at (l.loop.invariant.4 ms h)) in
+    let out = rounds_out _ _ _ _ _ _ _ _ _ _ (rw e at (l.loop.invariant.4 ms h)) in
     record { kept = out.0; rounds = out.1 }
 
 same-length-4 : tie.Need-same-length-4 invariant-loop decreases-loop

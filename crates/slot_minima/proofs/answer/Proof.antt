@@ -1,6 +1,6 @@
 -- `slot_minima::answer` meets its contract: step by step it is what the definition computes. Assumes nothing.
 use lib.Ieee.{div, of_bits}
-use Rattle.slot_minima.specs.Minima.{answerTo}
+use Rattle.slot_minima.specs.Minima.{answer_to}
 use borrow.Author.Rules.{rules}
 use Rattle.slot_minima.proofs.answer.Statement.{statement}
 use Rattle.slot_minima.proofs.answer.Tie as tie
@@ -21,7 +21,7 @@ greater-requires : tie.Need-greater-requires
 greater-requires c κs = search rules
 
 returns : tie.Need-returns
-unfolding answerTo div of_bits
+unfolding answer_to div of_bits
 returns c = cc
 
 pub answer-spec : {M : Type 1} → statement M

@@ -6,8 +6,8 @@ use Prim.Native.Nat.{◌+◌, ◌-◌, ◌*◌, ◌<◌, ◌≤◌}
 use native.Mathlib.Omega.{arith}
 use lib.ListN.{length, take, drop}
 use Rattle.slots.specs.Columns.{column}
-use Rattle.slots.proofs.EachColumn.{place_inside, ApartFrom, apart_none, apart_more, column-is}
-use Rattle.slot_minima.specs.Minima.{answerTo}
+use Rattle.slots.proofs.EachColumn.{place_inside, ApartFrom, apart_none, apart_more, column_is}
+use Rattle.slot_minima.specs.Minima.{answer_to}
 use Rattle.slot_minima.proofs.Seeing.{answered-more, answered-done}
 use borrow.Author.Rules.{rules}
 use Rattle.slot_minima.proofs.answer_column.Statement.{statement}
@@ -16,7 +16,7 @@ use Rattle.slot_minima.proofs.answer_column.Tie as tie
 abbrev invariant-loop : tie.invariant-loop
 invariant-loop scale kept m d c work₀ j₀ work j =
     (j ≤ d) × ApartFrom m d c work₀ work
-    × (take j (column m d c work) ++ map (answerTo scale kept) (drop j (column m d c work)) ≡ map (answerTo scale kept) (column m d c work₀))
+    × (take j (column m d c work) ++ map (answer_to scale kept) (drop j (column m d c work)) ≡ map (answer_to scale kept) (column m d c work₀))
 
 abbrev decreases-loop : tie.decreases-loop
 decreases-loop scale kept m d c work₀ j₀ work j = d - j
@@ -72,7 +72,7 @@ same_length : tie.Need-same-length invariant-loop decreases-loop
 same_length c = search rules
 
 returns : tie.Need-returns invariant-loop decreases-loop
-returns c = column-is c.before.loop.invariant.1 (answered-done _ _ _ _ _ _ _ _ c.loop-test.false c.before.loop.invariant.2)
+returns c = column_is c.before.loop.invariant.1 (answered-done _ _ _ _ _ _ _ _ c.loop-test.false c.before.loop.invariant.2)
 
 pub answer-column-spec : {M : Type 1} → statement M
 answer-column-spec =

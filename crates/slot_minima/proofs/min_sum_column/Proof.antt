@@ -1,5 +1,5 @@
 -- `slot_minima::min_sum_column` meets its contract: the messages seen, and then answered. Assumes nothing.
-use Rattle.slot_minima.proofs.Seeing.{seen-and-answered}
+use Rattle.slot_minima.proofs.Seeing.{seen_and_answered}
 use borrow.Author.Rules.{rules}
 use Rattle.slot_minima.proofs.min_sum_column.Statement.{statement}
 use Rattle.slot_minima.proofs.min_sum_column.Tie as tie
@@ -21,7 +21,7 @@ returns c =
     let answered = c.before.before in
     let seen = answered.before.before in
     let factor = seen.before.before in
-    seen-and-answered _ _ _ _ _ _ _ _ factor.factor-of.ensures seen.see-column.ensures.0 seen.see-column.ensures.1
+    seen_and_answered _ _ _ _ _ _ _ _ factor.factor-of.ensures seen.see-column.ensures.0 seen.see-column.ensures.1
     answered.answer-column.ensures
 
 pub min-sum-column-spec : {M : Type 1} → statement M

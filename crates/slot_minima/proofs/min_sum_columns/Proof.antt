@@ -2,14 +2,14 @@
 use mathlib.Core.Path.{◌∙◌}
 use Prim.Native.Nat.{◌-◌, ◌≤◌}
 use native.Mathlib.Omega.{arith}
-use Rattle.softmath.specs.CheckNode.{minSum, factorOf}
+use Rattle.softmath.specs.CheckNode.{min_sum, factor_of}
 use Rattle.slots.proofs.EachColumn.{DoneTo, done_none, done_more, done_all}
 use borrow.Author.Rules.{rules}
 use Rattle.slot_minima.proofs.min_sum_columns.Statement.{statement}
 use Rattle.slot_minima.proofs.min_sum_columns.Tie as tie
 
 abbrev invariant-loop : tie.invariant-loop
-invariant-loop rule m d work₀ c₀ work c = (c ≤ m) × DoneTo (minSum (factorOf rule)) m d work₀ c work
+invariant-loop rule m d work₀ c₀ work c = (c ≤ m) × DoneTo (min_sum (factor_of rule)) m d work₀ c work
 
 abbrev decreases-loop : tie.decreases-loop
 decreases-loop rule m d work₀ c₀ work c = m - c

@@ -1,6 +1,6 @@
 -- `slot_minima::min_sum_minima` meets its contract: at each code's sizes, and at any others. Assumes nothing.
 use borrow.Author.Tests.{eqb-true}
-use Rattle.slots.proofs.EachColumn.{at-sizes, room_at}
+use Rattle.slots.proofs.EachColumn.{at_sizes, room_at}
 use borrow.Author.Rules.{rules}
 use Rattle.slot_minima.proofs.min_sum_minima.Statement.{statement}
 use Rattle.slot_minima.proofs.min_sum_minima.Tie as tie
@@ -18,7 +18,7 @@ returns : tie.Need-returns
 returns c =
     let call = c.before.before in
     let t = call.before.before in
-    at-sizes t.before.if1.true (eqb-true _ _ t.if2.true) call.min-sum-columns.ensures
+    at_sizes t.before.if1.true (eqb-true _ _ t.if2.true) call.min-sum-columns.ensures
 
 min-sum-columns-requires-2 : tie.Need-min-sum-columns-requires-2
 min-sum-columns-requires-2 c κs =
@@ -33,7 +33,7 @@ returns-2 : tie.Need-returns-2
 returns-2 c =
     let call = c.before.before in
     let t = call.before.before in
-    at-sizes t.before.if3.true (eqb-true _ _ t.if4.true) call.min-sum-columns2.ensures
+    at_sizes t.before.if3.true (eqb-true _ _ t.if4.true) call.min-sum-columns2.ensures
 
 min-sum-columns-requires-3 : tie.Need-min-sum-columns-requires-3
 min-sum-columns-requires-3 c κs =
@@ -48,7 +48,7 @@ returns-3 : tie.Need-returns-3
 returns-3 c =
     let call = c.before.before in
     let t = call.before.before in
-    at-sizes t.before.if5.true (eqb-true _ _ t.if6.true) call.min-sum-columns3.ensures
+    at_sizes t.before.if5.true (eqb-true _ _ t.if6.true) call.min-sum-columns3.ensures
 
 min-sum-columns-requires-4 : tie.Need-min-sum-columns-requires-4
 min-sum-columns-requires-4 c κs = search rules

@@ -2,7 +2,7 @@
 use mathlib.Core.Path.{sym, ap, ◌∙◌}
 use Prim.Native.Nat.{ℕ, ◌*◌}
 use lib.Seq.{length-take-le}
-use Rattle.slot_others.proofs.OneColumn.{taken-size, column-put}
+use Rattle.slot_others.proofs.OneColumn.{taken_size, column-put}
 use borrow.Author.Rules.{rules}
 use Rattle.slot_others.proofs.answer_check.Statement.{statement}
 use Rattle.slot_others.proofs.answer_check.Tie as tie
@@ -14,7 +14,7 @@ array-share-prefix-messages : tie.Need-array-share-prefix-messages
 array-share-prefix-messages c = search rules
 
 slice-aggregate-replace-column : tie.Need-slice-aggregate-replace-column
-slice-aggregate-replace-column c = taken-size _ _ _ _ _ c.before.column-of.ensures.1
+slice-aggregate-replace-column c = taken_size _ _ _ _ _ c.before.column-of.ensures.1
 
 array-borrow-prefix-answers : tie.Need-array-borrow-prefix-answers
 array-borrow-prefix-answers c = search rules
@@ -26,7 +26,7 @@ replace-column-requires : tie.Need-replace-column-requires
 replace-column-requires c κs =
     let taken = c.before.before.before in
     let start = taken.before.before.before in
-    let size = taken-size _ _ _ _ _ taken.column-of.ensures.1 in
+    let size = taken_size _ _ _ _ _ taken.column-of.ensures.1 in
     ((start.requires.0.0 ∙ ap (λ (x : ℕ). x * start.args.m) size, start.requires.0.1), length-take-le _ _ start.requires.1 ∙ size)
 
 same_length : tie.Need-same-length

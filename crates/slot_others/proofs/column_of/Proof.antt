@@ -5,7 +5,7 @@ use native.Mathlib.Omega.{arith}
 use lib.ListN.{length, take, length-set}
 use Rattle.slots.specs.Columns.{column}
 use Rattle.slots.proofs.EachColumn.{place_inside}
-use Rattle.slot_others.proofs.OneColumn.{taken_more, taken-all}
+use Rattle.slot_others.proofs.OneColumn.{taken_more, taken_all}
 use borrow.Author.Rules.{rules}
 use Rattle.slot_others.proofs.column_of.Statement.{statement}
 use Rattle.slot_others.proofs.column_of.Tie as tie
@@ -60,7 +60,7 @@ returns : tie.Need-returns invariant-loop decreases-loop
 returns c =
     let l = c.before in
     let all : l.loop.j ≡ l.before.args.d = omega arith in
-    (l.loop.invariant.1, taken-all _ _ _ _ _ _ all l.loop.invariant.2)
+    (l.loop.invariant.1, taken_all _ _ _ _ _ _ all l.loop.invariant.2)
 
 pub column-of-spec : {M : Type 1} → statement M
 column-of-spec =

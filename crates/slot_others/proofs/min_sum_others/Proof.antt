@@ -2,8 +2,8 @@
 use mathlib.Core.Path.{◌∙◌}
 use Prim.Native.Nat.{◌-◌, ◌≤◌}
 use native.Mathlib.Omega.{arith}
-use Rattle.by_others.specs.Others.{othersSum}
-use Rattle.softmath.specs.CheckNode.{factorOf}
+use Rattle.by_others.specs.Others.{others_sum}
+use Rattle.softmath.specs.CheckNode.{factor_of}
 use Rattle.slots.proofs.EachColumn.{DoneTo, done_none, done_more, done_all}
 use borrow.Author.Rules.{rules}
 use Rattle.slot_others.proofs.min_sum_others.Statement.{statement}
@@ -11,7 +11,7 @@ use Rattle.slot_others.proofs.min_sum_others.Tie as tie
 
 abbrev invariant-loop : tie.invariant-loop
 invariant-loop rule m d work₀ c₀ work c =
-    (c ≤ m) × DoneTo (othersSum (factorOf rule)) m d work₀ c work
+    (c ≤ m) × DoneTo (others_sum (factor_of rule)) m d work₀ c work
 
 abbrev decreases-loop : tie.decreases-loop
 decreases-loop rule m d work₀ c₀ work c = m - c

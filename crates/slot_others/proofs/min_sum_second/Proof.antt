@@ -1,5 +1,5 @@
 -- `slot_others::min_sum_second` meets its contract: both engines answer each column alike. Assumes nothing.
-use Rattle.slot_others.proofs.OneColumn.{engines-same}
+use Rattle.slot_others.proofs.OneColumn.{engines_same}
 use borrow.Author.Rules.{rules}
 use Rattle.slot_others.proofs.min_sum_second.Statement.{statement}
 use Rattle.slot_others.proofs.min_sum_second.Tie as tie
@@ -11,7 +11,7 @@ same_length : tie.Need-same-length
 same_length c = search rules
 
 returns : tie.Need-returns
-returns c = engines-same _ _ _ _ _ c.before.before.min-sum-others.ensures
+returns c = engines_same _ _ _ _ _ c.before.before.min-sum-others.ensures
 
 pub min-sum-second-spec : {M : Type 1} → statement M
 min-sum-second-spec = tie.close (tie.spec min-sum-others-requires same_length returns)

@@ -4,7 +4,7 @@ use Prim.Native.Nat.{◌+◌, ◌-◌, ◌*◌, ◌<◌, ◌≤◌}
 use native.Mathlib.Omega.{arith}
 use lib.ListN.{length, take}
 use Rattle.slots.specs.Columns.{column}
-use Rattle.slots.proofs.EachColumn.{place_inside, ApartFrom, apart_none, apart_more, column-is}
+use Rattle.slots.proofs.EachColumn.{place_inside, ApartFrom, apart_none, apart_more, column_is}
 use Rattle.slot_others.proofs.OneColumn.{put-more, put-done}
 use borrow.Author.Rules.{rules}
 use Rattle.slot_others.proofs.put_column.Statement.{statement}
@@ -65,7 +65,7 @@ same_length : tie.Need-same-length invariant-loop decreases-loop
 same_length c = search rules
 
 returns : tie.Need-returns invariant-loop decreases-loop
-returns c = column-is c.before.loop.invariant.1 (put-done _ _ _ _ c.before.before.requires.1 _ c.loop-test.false c.before.loop.invariant.2)
+returns c = column_is c.before.loop.invariant.1 (put-done _ _ _ _ c.before.before.requires.1 _ c.loop-test.false c.before.loop.invariant.2)
 
 pub put-column-spec : {M : Type 1} → statement M
 put-column-spec =

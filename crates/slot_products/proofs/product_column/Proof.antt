@@ -6,10 +6,10 @@ use Prim.Native.Nat.{◌+◌, ◌-◌, ◌*◌, ◌<◌, ◌≤◌}
 use native.Mathlib.Omega.{arith}
 use lib.ListN.{length, take, drop}
 use Rattle.softmath.specs.Single.{◌⊗◌, product}
-use Rattle.softmath.specs.CheckNode.{atEach}
-use Rattle.softmath.proofs.LeaveOneOut.{carriedFrom}
+use Rattle.softmath.specs.CheckNode.{at_each}
+use Rattle.softmath.proofs.LeaveOneOut.{carried_from}
 use Rattle.slots.specs.Columns.{column}
-use Rattle.slots.proofs.EachColumn.{place_inside, ApartFrom, apart_none, apart_more, column-is}
+use Rattle.slots.proofs.EachColumn.{place_inside, ApartFrom, apart_none, apart_more, column_is}
 use Rattle.slot_products.proofs.Products.{turned_none, turned_more, turned-done}
 use borrow.Author.Rules.{rules}
 use Rattle.slot_products.proofs.product_column.Statement.{statement}
@@ -18,7 +18,7 @@ use Rattle.slot_products.proofs.product_column.Tie as tie
 abbrev invariant-loop : tie.invariant-loop
 invariant-loop m d c work₀ carried₀ j₀ work carried j =
     (j ≤ d) × ApartFrom m d c work₀ work
-    × (take j (column m d c work) ++ carriedFrom ◌⊗◌ carried (drop j (column m d c work)) ≡ atEach product (column m d c work₀))
+    × (take j (column m d c work) ++ carried_from ◌⊗◌ carried (drop j (column m d c work)) ≡ at_each product (column m d c work₀))
 
 abbrev decreases-loop : tie.decreases-loop
 decreases-loop m d c work₀ carried₀ j₀ work carried j = d - j
@@ -80,7 +80,7 @@ same_length : tie.Need-same-length invariant-loop decreases-loop
 same_length c = search rules
 
 returns : tie.Need-returns invariant-loop decreases-loop
-returns c = column-is c.before.loop.invariant.1 (turned-done _ _ _ _ _ _ _ c.loop-test.false c.before.loop.invariant.2)
+returns c = column_is c.before.loop.invariant.1 (turned-done _ _ _ _ _ _ _ c.loop-test.false c.before.loop.invariant.2)
 
 pub product-column-spec : {M : Type 1} → statement M
 product-column-spec =

@@ -3,14 +3,14 @@ use mathlib.Core.Path.{◌∙◌}
 use Prim.Native.Nat.{◌-◌, ◌≤◌}
 use native.Mathlib.Omega.{arith}
 use Rattle.softmath.specs.Single.{product}
-use Rattle.softmath.specs.CheckNode.{atEach}
+use Rattle.softmath.specs.CheckNode.{at_each}
 use Rattle.slots.proofs.EachColumn.{DoneTo, done_none, done_more, done_all}
 use borrow.Author.Rules.{rules}
 use Rattle.slot_products.proofs.product_columns.Statement.{statement}
 use Rattle.slot_products.proofs.product_columns.Tie as tie
 
 abbrev invariant-loop : tie.invariant-loop
-invariant-loop m d work₀ c₀ work c = (c ≤ m) × DoneTo (atEach product) m d work₀ c work
+invariant-loop m d work₀ c₀ work c = (c ≤ m) × DoneTo (at_each product) m d work₀ c work
 
 abbrev decreases-loop : tie.decreases-loop
 decreases-loop m d work₀ c₀ work c = m - c

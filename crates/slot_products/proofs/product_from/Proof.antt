@@ -3,7 +3,7 @@ use mathlib.Core.Path.{◌≡◌, refl}
 use Prim.Native.Nat.{◌+◌, ◌-◌, ◌*◌, ◌<◌}
 use native.Mathlib.Omega.{arith}
 use lib.ListN.{length, drop}
-use Rattle.softmath.specs.Single.{◌⊗◌, foldFrom}
+use Rattle.softmath.specs.Single.{◌⊗◌, fold_from}
 use Rattle.slots.specs.Columns.{column}
 use Rattle.slots.proofs.EachColumn.{place_inside}
 use Rattle.slot_products.proofs.Products.{factor-more, factor-none}
@@ -12,7 +12,7 @@ use Rattle.slot_products.proofs.product_from.Statement.{statement}
 use Rattle.slot_products.proofs.product_from.Tie as tie
 
 abbrev invariant-loop : tie.invariant-loop
-invariant-loop start m d c from work p₀ j₀ p j = foldFrom ◌⊗◌ p (drop j (column m d c work)) ≡ foldFrom ◌⊗◌ start (drop from (column m d c work))
+invariant-loop start m d c from work p₀ j₀ p j = fold_from ◌⊗◌ p (drop j (column m d c work)) ≡ fold_from ◌⊗◌ start (drop from (column m d c work))
 
 abbrev decreases-loop : tie.decreases-loop
 decreases-loop start m d c from work p₀ j₀ p j = d - j

@@ -1,6 +1,6 @@
 -- `slot_products::products_slots` meets its contract: at each code's sizes, and at any others. Assumes nothing.
 use borrow.Author.Tests.{eqb-true}
-use Rattle.slots.proofs.EachColumn.{at-sizes, room_at}
+use Rattle.slots.proofs.EachColumn.{at_sizes, room_at}
 use borrow.Author.Rules.{rules}
 use Rattle.slot_products.proofs.products_slots.Statement.{statement}
 use Rattle.slot_products.proofs.products_slots.Tie as tie
@@ -18,7 +18,7 @@ returns : tie.Need-returns
 returns c =
     let call = c.before.before in
     let t = call.before.before in
-    at-sizes t.before.if1.true (eqb-true _ _ t.if2.true) call.product-columns.ensures
+    at_sizes t.before.if1.true (eqb-true _ _ t.if2.true) call.product-columns.ensures
 
 product-columns-requires-2 : tie.Need-product-columns-requires-2
 product-columns-requires-2 c κs =
@@ -33,7 +33,7 @@ returns-2 : tie.Need-returns-2
 returns-2 c =
     let call = c.before.before in
     let t = call.before.before in
-    at-sizes t.before.if3.true (eqb-true _ _ t.if4.true) call.product-columns2.ensures
+    at_sizes t.before.if3.true (eqb-true _ _ t.if4.true) call.product-columns2.ensures
 
 product-columns-requires-3 : tie.Need-product-columns-requires-3
 product-columns-requires-3 c κs =
@@ -48,7 +48,7 @@ returns-3 : tie.Need-returns-3
 returns-3 c =
     let call = c.before.before in
     let t = call.before.before in
-    at-sizes t.before.if5.true (eqb-true _ _ t.if6.true) call.product-columns3.ensures
+    at_sizes t.before.if5.true (eqb-true _ _ t.if6.true) call.product-columns3.ensures
 
 product-columns-requires-4 : tie.Need-product-columns-requires-4
 product-columns-requires-4 c κs =
@@ -63,7 +63,7 @@ returns-4 : tie.Need-returns-4
 returns-4 c =
     let call = c.before.before in
     let t = call.before.before in
-    at-sizes t.before.if7.true (eqb-true _ _ t.if8.true) call.product-columns4.ensures
+    at_sizes t.before.if7.true (eqb-true _ _ t.if8.true) call.product-columns4.ensures
 
 product-columns-requires-5 : tie.Need-product-columns-requires-5
 product-columns-requires-5 c κs = search rules

@@ -1,6 +1,6 @@
 -- `softmath::factor_of` meets its contract: in each arm the rule is the one matched. Assumes nothing.
 use lib.Ieee.{of_bits}
-use Rattle.softmath.specs.CheckNode.{factorOf}
+use Rattle.softmath.specs.CheckNode.{factor_of}
 use borrow.Author.Rules.{rules}
 use Rattle.softmath.proofs.factor_of.Statement.{statement}
 use Rattle.softmath.proofs.factor_of.Tie as tie
@@ -18,19 +18,19 @@ enum-told-3 : tie.Need-enum-told-3
 enum-told-3 c = search rules
 
 returns : tie.Need-returns
-unfolding factorOf of_bits
+unfolding factor_of of_bits
 returns c = search rules
 
 returns-2 : tie.Need-returns-2
-unfolding factorOf of_bits
+unfolding factor_of of_bits
 returns-2 c = search rules
 
 returns-3 : tie.Need-returns-3
-unfolding factorOf of_bits
+unfolding factor_of of_bits
 returns-3 c = search rules
 
 returns-4 : tie.Need-returns-4
-unfolding factorOf of_bits
+unfolding factor_of of_bits
 returns-4 c = search rules
 
 pub factor-of-spec : {M : Type 1} → statement M

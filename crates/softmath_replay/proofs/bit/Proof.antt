@@ -1,6 +1,6 @@
 -- `softmath_replay::bit` is safe: the edges lie within the floats. Assumes nothing.
 use native.Mathlib.Omega.{arith}
-use Rattle.softmath_replay.proofs.Places.{three-edges}
+use Rattle.softmath_replay.proofs.Places.{three_edges}
 use borrow.Author.Rules.{rules}
 use Rattle.softmath_replay.proofs.bit.Statement.{statement}
 use Rattle.softmath_replay.proofs.bit.Tie as tie
@@ -15,7 +15,7 @@ slice-aggregate-listed-bits-3 : tie.Need-slice-aggregate-listed-bits-3
 slice-aggregate-listed-bits-3 c = search rules
 
 listed-bits-requires : tie.Need-listed-bits-requires
-listed-bits-requires c κs = (omega arith, (omega arith, three-edges _ c.before.before.before.before.before.requires))
+listed-bits-requires c κs = (omega arith, (omega arith, three_edges _ c.before.before.before.before.before.requires))
 
 array-read-print-bit : tie.Need-array-read-print-bit
 array-read-print-bit c = search rules

@@ -1,6 +1,6 @@
 -- `softmath_replay::check_step` is safe: the slots have one place each, and there is no pad. Assumes nothing.
 use native.Mathlib.Omega.{arith}
-use Rattle.softmath_replay.proofs.Places.{no-pads}
+use Rattle.softmath_replay.proofs.Places.{no_pads}
 use borrow.Author.Rules.{rules}
 use Rattle.softmath_replay.proofs.check_step.Statement.{statement}
 use Rattle.softmath_replay.proofs.check_step.Tie as tie
@@ -12,7 +12,7 @@ slice-aggregate-check-step : tie.Need-slice-aggregate-check-step
 slice-aggregate-check-step c = search rules
 
 check-step-requires : tie.Need-check-step-requires
-check-step-requires c κs = (omega arith, no-pads _)
+check-step-requires c κs = (omega arith, no_pads _)
 
 print-floats-requires : tie.Need-print-floats-requires
 print-floats-requires c κs = search rules

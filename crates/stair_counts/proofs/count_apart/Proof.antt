@@ -5,16 +5,16 @@ use Prim.Native.Nat.{◌+◌, ◌-◌, ◌<◌, ◌≤◌}
 use native.Mathlib.Omega.{arith}
 use lib.Bits.{bit_and, bit_xor}
 use lib.ListN.{get_or}
-use Rattle.stairs.specs.Stairs.{bitBefore}
-use Rattle.stair_counts.specs.Apart.{apart, rowsApart}
-use Rattle.stair_counts.proofs.Recount.{apart_of, apart-bit, none_before, own-before, apart_more, apart_none}
+use Rattle.stairs.specs.Stairs.{bit_before}
+use Rattle.stair_counts.specs.Apart.{apart, rows_apart}
+use Rattle.stair_counts.proofs.Recount.{apart_of, apart_bit, none_before, own_before, apart_more, apart_none}
 use borrow.Author.Rules.{rules}
 use Rattle.stair_counts.proofs.count_apart.Statement.{statement}
 use Rattle.stair_counts.proofs.count_apart.Tie as tie
 
 abbrev invariant-loop : tie.invariant-loop
 invariant-loop k m word hard found₀ before₀ i₀ found before i =
-    (i ≤ m) × (found ≤ i) × (before ≡ bit_xor (bitBefore k i word) (bitBefore k i hard)) × (found + rowsApart k i (m - i) word hard ≡ rowsApart k 0 m word hard)
+    (i ≤ m) × (found ≤ i) × (before ≡ bit_xor (bit_before k i word) (bit_before k i hard)) × (found + rows_apart k i (m - i) word hard ≡ rows_apart k 0 m word hard)
 
 abbrev decreases-loop : tie.decreases-loop
 decreases-loop k m word hard found₀ before₀ i₀ found before i = m - i
@@ -29,7 +29,7 @@ added c =
 
 small : (c : tie.After-shared-slice-known2 invariant-loop decreases-loop) → let l = c.before.before.before in let s = l.before.args in
     apart s.k l.loop.i s.word.now s.hard.now < 2
-small c = apart-bit _ _ _ _
+small c = apart_bit _ _ _ _
 
 loop-holds : tie.Need-loop-init invariant-loop decreases-loop
 loop-holds c =
@@ -65,7 +65,7 @@ loop-again c =
     let l = c.before.before.before in
     let s = l.before.args in
     let rest = apart_more s.k l.loop.i s.m s.word.now s.hard.now c.before.before.loop-test.true in
-    let own = own-before s.k l.loop.i s.word.now s.hard.now in
+    let own = own_before s.k l.loop.i s.word.now s.hard.now in
     (search rules, omega (arith, added c, small c), own, omega (arith, added c, rest, l.loop.invariant.3))
 
 returns : tie.Need-returns invariant-loop decreases-loop

@@ -4,21 +4,21 @@ use Prim.Native.Nat.{ℕ, zero, suc, ◌+◌, ◌-◌}
 use native.Mathlib.Omega.{arith}
 use mathlib.Core.List.{List}
 use lib.ListN.{get_or}
-use Rattle.stairs.specs.Stairs.{bitBefore}
+use Rattle.stairs.specs.Stairs.{bit_before}
 use borrow.Author.Rules.{rules}
 use Rattle.stair_parity.proofs.bit_before.Statement.{statement}
 use Rattle.stair_parity.proofs.bit_before.Tie as tie
 
 -- the byte before parity bit i, where there is one
-behind : (k i : ℕ) (bytes : List ℕ) → (i ≡ 0 → ⊥) → get_or bytes (k + i - 1) 0 ≡ bitBefore k i bytes
-unfolding bitBefore
+behind : (k i : ℕ) (bytes : List ℕ) → (i ≡ 0 → ⊥) → get_or bytes (k + i - 1) 0 ≡ bit_before k i bytes
+unfolding bit_before
 behind k zero bytes h = absurd (h refl)
 behind k (suc i) bytes h =
     let e : k + suc i - 1 ≡ k + i = omega arith in
     ap (λ (p : ℕ). get_or bytes p 0) e
 
 returns : tie.Need-returns
-unfolding bitBefore
+unfolding bit_before
 returns c = rw c.if1.true refl
 
 add-result : tie.Need-overflow-add-result

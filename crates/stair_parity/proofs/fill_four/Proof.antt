@@ -1,7 +1,7 @@
 -- `stair_parity::fill_four` meets its contract: part after part, the rows so far are filled in. Assumes nothing.
 use Prim.Native.Nat.{◌+◌}
 use native.Mathlib.Omega.{arith}
-use Rattle.stair_parity.proofs.Filling.{fill-then}
+use Rattle.stair_parity.proofs.Filling.{fill_then}
 use borrow.Author.Rules.{rules}
 use Rattle.stair_parity.proofs.fill_four.Statement.{statement}
 use Rattle.stair_parity.proofs.fill_four.Tie as tie
@@ -37,7 +37,7 @@ returns c =
     let two = three.before.before.before.before in
     let one = two.before.before.before.before in
     let a = one.before.before.before.before.args in
-    let so_far = fill-then a.k a.width a.taps.now a.first in
+    let so_far = fill_then a.k a.width a.taps.now a.first in
     so_far (a.n + a.n + a.n) a.n _ _ _ _ (omega arith)
     (so_far (a.n + a.n) a.n _ _ _ _ (omega arith) (so_far a.n a.n _ _ _ _ (omega arith) one.fill-part.ensures two.fill-part2.ensures)
     three.fill-part3.ensures)

@@ -5,19 +5,19 @@ use Prim.Native.Nat.{◌+◌, ◌-◌, ◌*◌, ◌≤◌, ◌<◌}
 use native.Mathlib.Nat.{le-add_right, mul-le-mul_right}
 use native.Mathlib.Omega.{arith}
 use lib.ListN.{length, length-set}
-use Rattle.staircase.specs.Shape.{stairRows}
-use Rattle.stairs.specs.Stairs.{bitBefore}
+use Rattle.staircase.specs.Shape.{stair_rows}
+use Rattle.stairs.specs.Stairs.{bit_before}
 use Rattle.stairs.proofs.Rows.{row_fits, row_next, row_low}
 use Rattle.stair_parity.specs.Filling.{filled}
-use Rattle.stair_parity.proofs.Filling.{rows-from, before-set, fill_more, fill_done}
+use Rattle.stair_parity.proofs.Filling.{rows_from, before-set, fill_more, fill_done}
 use borrow.Author.Rules.{rules}
 use Rattle.stair_parity.proofs.fill_rows.Statement.{statement}
 use Rattle.stair_parity.proofs.fill_rows.Tie as tie
 
 abbrev invariant-loop : tie.invariant-loop
 invariant-loop width k first n taps codeword₀ end before₀ a₀ i₀ codeword before a i =
-    (i ≤ first + n) × (a ≡ i * width) × (length codeword ≡ length codeword₀) × (before ≡ bitBefore k i codeword)
-    × (filled (stairRows k width taps i (first + n - i)) (k + i) codeword ≡ filled (stairRows k width taps first n) (k + first) codeword₀)
+    (i ≤ first + n) × (a ≡ i * width) × (length codeword ≡ length codeword₀) × (before ≡ bit_before k i codeword)
+    × (filled (stair_rows k width taps i (first + n - i)) (k + i) codeword ≡ filled (stair_rows k width taps first n) (k + first) codeword₀)
 
 abbrev decreases-loop : tie.decreases-loop
 decreases-loop width k first n taps codeword₀ end before₀ a₀ i₀ codeword before a i = first + n - i
@@ -50,7 +50,7 @@ mul-a c =
 loop-holds : tie.Need-loop-init invariant-loop decreases-loop
 loop-holds c =
     let s = c.before.before.before.before.args in
-    (search rules, search rules, refl, c.bit-before.ensures, rw rows-from refl)
+    (search rules, search rules, refl, c.bit-before.ensures, rw rows_from refl)
 
 add-b : tie.Need-overflow-add-b invariant-loop decreases-loop
 add-b c = omega (arith, row c)

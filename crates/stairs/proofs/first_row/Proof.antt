@@ -5,20 +5,20 @@ use Prim.Native.Nat.{◌+◌, ◌-◌, ◌*◌, ◌≤◌}
 use native.Mathlib.Omega.{arith}
 use lib.Bits.{bit_xor}
 use lib.ListN.{length, get_or}
-use Rattle.tanner.specs.Checks.{xorFrom, firstBy}
-use Rattle.tanner.specs.Masked.{measured, firstMasked}
-use Rattle.tanner.proofs.Steps.{first-here, first-later, first-nowhere}
-use Rattle.staircase.specs.Shape.{stairRow, stairRows, stairs}
-use Rattle.stairs.specs.Stairs.{bitBefore}
-use Rattle.stairs.proofs.Rows.{row_fits, row_next, row_low, row-xor, rows_more, rows-done, rows_all, before_more, before-none}
+use Rattle.tanner.specs.Checks.{xor_from, first_by}
+use Rattle.tanner.specs.Masked.{measured, first_masked}
+use Rattle.tanner.proofs.Steps.{first-here, first-later, first_nowhere}
+use Rattle.staircase.specs.Shape.{stair_row, stair_rows, stairs}
+use Rattle.stairs.specs.Stairs.{bit_before}
+use Rattle.stairs.proofs.Rows.{row_fits, row_next, row_low, row-xor, rows_more, rows_done, rows_all, before_more, before-none}
 use borrow.Author.Rules.{rules}
 use Rattle.stairs.proofs.first_row.Statement.{statement}
 use Rattle.stairs.proofs.first_row.Tie as tie
 
 abbrev invariant-loop : tie.invariant-loop
 invariant-loop width k m taps bytes last₀ a₀ i₀ last a i =
-    (i ≤ m) × (a ≡ i * width) × (last ≡ bitBefore k i bytes)
-    × (firstBy (measured 1 bytes) i (stairRows k width taps i (m - i)) ≡ firstMasked 1 (stairs k width m taps) bytes)
+    (i ≤ m) × (a ≡ i * width) × (last ≡ bit_before k i bytes)
+    × (first_by (measured 1 bytes) i (stair_rows k width taps i (m - i)) ≡ first_masked 1 (stairs k width m taps) bytes)
 
 abbrev decreases-loop : tie.decreases-loop
 decreases-loop width k m taps bytes last₀ a₀ i₀ last a i = m - i
@@ -31,8 +31,8 @@ row c =
 
 -- once its message positions are XORed: the XOR of the whole row
 whole : (c : tie.After-xor-at invariant-loop decreases-loop) → let l = c.before.before.before.before in let s = l.before.before.before.args in
-    bit_xor (bit_xor c.xor-at.result (get_or s.bytes.now (s.k + l.loop.i) 0)) l.loop.last ≡ xorFrom 0
-    (stairRow s.k s.width s.taps.now l.loop.i) s.bytes.now
+    bit_xor (bit_xor c.xor-at.result (get_or s.bytes.now (s.k + l.loop.i) 0)) l.loop.last ≡ xor_from 0
+    (stair_row s.k s.width s.taps.now l.loop.i) s.bytes.now
 whole c =
     let l = c.before.before.before.before in
     row-xor _ _ _ _ _ _ _ _ l.loop.invariant.1 c.xor-at.ensures l.loop.invariant.2
@@ -101,7 +101,7 @@ returns-2 : tie.Need-returns-2 invariant-loop decreases-loop
 returns-2 c =
     let l = c.before in
     let s = l.before.before.before.args in
-    first-nowhere 1 s.bytes.now _ _ _ (rows-done s.k s.width s.m s.taps.now l.loop.i c.loop-test.false) l.loop.invariant.3
+    first_nowhere 1 s.bytes.now _ _ _ (rows_done s.k s.width s.m s.taps.now l.loop.i c.loop-test.false) l.loop.invariant.3
 
 pub first-row-spec : {M : Type 1} → statement M
 first-row-spec =

@@ -3,15 +3,15 @@ use mathlib.Core.Path.{◌≡◌}
 use Prim.Native.Nat.{◌-◌, ◌≤◌}
 use native.Mathlib.Omega.{arith}
 use lib.ListN.{length, drop}
-use Rattle.tanner.specs.Checks.{xorFrom}
+use Rattle.tanner.specs.Checks.{xor_from}
 use Rattle.lists.specs.Below.{Below}
-use Rattle.tanner.proofs.Steps.{xor-more, xor-done}
+use Rattle.tanner.proofs.Steps.{xor_more, xor-done}
 use borrow.Author.Rules.{rules}
 use Rattle.tanner.proofs.xor_at.Statement.{statement}
 use Rattle.tanner.proofs.xor_at.Tie as tie
 
 abbrev invariant-loop : tie.invariant-loop
-invariant-loop positions bytes x₀ i₀ x i = (i ≤ length positions) × (xorFrom x (drop i positions) bytes ≡ xorFrom 0 positions bytes)
+invariant-loop positions bytes x₀ i₀ x i = (i ≤ length positions) × (xor_from x (drop i positions) bytes ≡ xor_from 0 positions bytes)
 
 abbrev decreases-loop : tie.decreases-loop
 decreases-loop positions bytes x₀ i₀ x i = length positions - i
@@ -39,7 +39,7 @@ loop-less : tie.Need-loop-smaller invariant-loop decreases-loop
 loop-less c = search rules
 
 loop-again : tie.Need-loop-preserved invariant-loop decreases-loop
-loop-again c = (search rules, xor-more _ _ _ _ _ c.before.before.loop-test.true c.before.before.before.loop.invariant.1)
+loop-again c = (search rules, xor_more _ _ _ _ _ c.before.before.loop-test.true c.before.before.before.loop.invariant.1)
 
 returns : tie.Need-returns invariant-loop decreases-loop
 returns c = xor-done _ _ _ _ _ c.loop-test.false c.before.loop.invariant.1

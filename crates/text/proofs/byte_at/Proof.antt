@@ -1,5 +1,5 @@
 -- `text::byte_at` meets its contract. Each of the eight bits is 0 or 1. Assumes nothing.
-use Rattle.text.specs.Text.{byteAt}
+use Rattle.text.specs.Text.{byte_at}
 use borrow.Author.Rules.{rules}
 use Rattle.text.proofs.byte_at.Statement.{statement}
 use Rattle.text.proofs.byte_at.Tie as tie
@@ -92,7 +92,7 @@ add-result-7 : tie.Need-overflow-add-result-7
 add-result-7 c = search rules
 
 returns : tie.Need-returns
-unfolding byteAt
+unfolding byte_at
 returns c = search rules
 
 pub byte-at-spec : {M : Type 1} → statement M

@@ -3,15 +3,15 @@ use native.Mathlib.Omega.{arith}
 use mathlib.Core.Path.{ap}
 use Prim.Native.Nat.{◌+◌, ◌-◌}
 use lib.ListN.{length}
-use Rattle.text.specs.Text.{byteAt, hexByte, hex}
+use Rattle.text.specs.Text.{byte_at, hex_byte, hex}
 use Rattle.text.proofs.Put.{Left, left-all, left_less, left-none}
-use Rattle.text.proofs.Hex.{hexRest, hex-all, hex-more, hex-none}
+use Rattle.text.proofs.Hex.{hex_rest, hex-all, hex_more, hex-none}
 use borrow.Author.Rules.{rules}
 use Rattle.text.proofs.put_hex.Statement.{statement}
 use Rattle.text.proofs.put_hex.Tie as tie
 
 abbrev invariant-loop : tie.invariant-loop
-invariant-loop out₀ at bits next₀ i₀ out next i = Left out₀ at (hex bits) out next (hexRest bits i)
+invariant-loop out₀ at bits next₀ i₀ out next i = Left out₀ at (hex bits) out next (hex_rest bits i)
 
 abbrev decreases-loop : tie.decreases-loop
 decreases-loop out₀ at bits next₀ i₀ out next i = length bits - i
@@ -26,7 +26,7 @@ byte-at-requires c κs = search rules
 
 put-hex-byte-requires : tie.Need-put-hex-byte-requires invariant-loop decreases-loop
 put-hex-byte-requires c κs =
-    let more = ap length (hex-more c.before.before.before.before.before.before.args.bits.now c.before.before.before.loop.i (omega arith)) in
+    let more = ap length (hex_more c.before.before.before.before.before.before.args.bits.now c.before.before.before.loop.i (omega arith)) in
     omega arith
 
 add-i : tie.Need-overflow-add-i invariant-loop decreases-loop
@@ -40,8 +40,8 @@ loop-again c =
     let start = c.before.before.before.before.before.before.before.before.before in
     let now = c.before.before.before.before.before.before.loop in
     let bits = start.args.bits.now in
-    left_less start.args.out.now start.args.at (hex bits) now.out now.next (hexByte (byteAt bits now.i)) (hexRest bits (now.i + 8)) _ _ (omega arith)
-    (rw (hex-more bits now.i (omega arith)) at now.invariant)
+    left_less start.args.out.now start.args.at (hex bits) now.out now.next (hex_byte (byte_at bits now.i)) (hex_rest bits (now.i + 8)) _ _ (omega arith)
+    (rw (hex_more bits now.i (omega arith)) at now.invariant)
     (rw c.before.before.before.before.byte_at.ensures at c.before.before.put-hex-byte.ensures)
 
 same_length : tie.Need-same-length invariant-loop decreases-loop

@@ -4,7 +4,7 @@ use Prim.Native.Nat.{ℕ, ◌+◌, ◌-◌, ◌*◌, ◌<◌, ◌≤◌}
 use native.Mathlib.Omega.{arith}
 use lib.Ieee.{of_bits}
 use lib.ListN.{length, get_or, length-set}
-use Rattle.variable_node.specs.Passes.{turns, passOf, threeTurn}
+use Rattle.variable_node.specs.Passes.{turns, pass_of, three_turn}
 use Rattle.variable_node.proofs.Turns.{table-room, table-low, listed_more}
 use borrow.Author.Rules.{rules}
 use Rattle.variable_node.proofs.listed_bits.Statement.{statement}
@@ -12,7 +12,7 @@ use Rattle.variable_node.proofs.listed_bits.Tie as tie
 
 abbrev invariant-loop : tie.invariant-loop
 invariant-loop kind n llr table messages₀ hard₀ a₀ b₀ messages hard a b = (b ≤ n) × (a ≡ b * 3) × (length messages ≡ length messages₀) ×
-    (length hard ≡ length hard₀) × (passOf hard messages ≡ turns (threeTurn kind llr table) b (passOf hard₀ messages₀))
+    (length hard ≡ length hard₀) × (pass_of hard messages ≡ turns (three_turn kind llr table) b (pass_of hard₀ messages₀))
 
 abbrev decreases-loop : tie.decreases-loop
 decreases-loop kind n llr table messages₀ hard₀ a₀ b₀ messages hard a b = n - b

@@ -3,15 +3,15 @@ use mathlib.Core.Path.{◌≡◌, refl}
 use Prim.Native.Nat.{ℕ, ◌+◌, ◌-◌, ◌*◌, ◌<◌, ◌≤◌}
 use native.Mathlib.Omega.{arith}
 use lib.ListN.{length, get_or, length-set}
-use Rattle.variable_node.specs.Passes.{turns, threeFirst}
-use Rattle.variable_node.proofs.Turns.{table-room, table-low, listed-first-more}
+use Rattle.variable_node.specs.Passes.{turns, three_first}
+use Rattle.variable_node.proofs.Turns.{table-room, table-low, listed-first_more}
 use borrow.Author.Rules.{rules}
 use Rattle.variable_node.proofs.listed_first.Statement.{statement}
 use Rattle.variable_node.proofs.listed_first.Tie as tie
 
 abbrev invariant-loop : tie.invariant-loop
 invariant-loop n llr table messages₀ a₀ b₀ messages a b = (b ≤ n) × (a ≡ b * 3) × (length messages ≡ length messages₀)
-    × (messages ≡ turns (threeFirst llr table) b messages₀)
+    × (messages ≡ turns (three_first llr table) b messages₀)
 
 abbrev decreases-loop : tie.decreases-loop
 decreases-loop n llr table messages₀ a₀ b₀ messages a b = n - b
@@ -113,7 +113,7 @@ loop-again : tie.Need-loop-preserved invariant-loop decreases-loop
 loop-again c =
     let i = entries c in
     let l = i.before.loop in
-    (omega arith, omega (arith, l.inv.1), simp length-set l.inv.2, listed-first-more _ _ l.b l.a _ _ l.inv.1 (room i) l.inv.3)
+    (omega arith, omega (arith, l.inv.1), simp length-set l.inv.2, listed-first_more _ _ l.b l.a _ _ l.inv.1 (room i) l.inv.3)
 
 same_length : tie.Need-same-length invariant-loop decreases-loop
 same_length c = search rules

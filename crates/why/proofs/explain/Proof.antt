@@ -5,16 +5,16 @@ use Prim.Native.Nat.{ℕ, suc, ◌+◌, ◌-◌, ◌*◌, ◌≤◌, ◌<◌}
 use native.Mathlib.Omega.{arith}
 use lib.Ieee.{Float}
 use lib.ListN.{length, get_or, take, drop}
-use Rattle.batch.specs.Codes.{sizeN}
-use Rattle.batch.specs.Pairs.{pairsOf, framesOf}
+use Rattle.batch.specs.Codes.{size_n}
+use Rattle.batch.specs.Pairs.{pairs_of, frames_of}
 use Rattle.batch.proofs.Sizes.{size_small}
-use Rattle.lists.proofs.Parts.{part-size}
+use Rattle.lists.proofs.Parts.{part_size}
 use Rattle.batch.proofs.Frames.{pair_inside, frame-inside}
 use Rattle.clean_frames.proofs.FrameAt.{frame_at}
 use Rattle.batch_input.specs.Input.{code_of}
 use Rattle.batch_input.specs.declared.Header.{Header}
 use Rattle.batch_input.proofs.Room.{part_length, back, back_fits, back-length}
-use Rattle.why.proofs.Frame.{reason-named, frame-line}
+use Rattle.why.proofs.Frame.{reason_named, frame-line}
 use borrow.Author.Rules.{rules}
 use Rattle.why.proofs.explain.Statement.{statement}
 use Rattle.why.proofs.explain.Tie as tie
@@ -34,7 +34,7 @@ from z = get_or z.args.pairs.now (z.args.place * 2) 0
 pair : (z : tie.Start) → suc (z.args.place * 2) < length z.args.pairs.now
 pair z = pair_inside z.args.values.now z.args.pairs.now _ z.args.place z.requires.1.0 z.requires.1.1.0
 
-frame : (z : tie.Start) → from z + sizeN (code z) ≤ length z.args.values.now
+frame : (z : tie.Start) → from z + size_n (code z) ≤ length z.args.values.now
 frame z = frame-inside z.args.values.now z.args.pairs.now _ z.args.place z.requires.1.0 z.requires.1.1.0
 
 -- N, as computed
@@ -47,8 +47,8 @@ head f = f.before.before.read-header.result
 abbrev N : tie.After-frame-values → ℕ
 N f = f.frame-values.result
 
-size : (f : tie.After-frame-values) → N f ≡ sizeN (code (start f))
-size f = f.frame-values.ensures ∙ ap sizeN f.before.before.read-header.ensures.code
+size : (f : tie.After-frame-values) → N f ≡ size_n (code (start f))
+size f = f.frame-values.ensures ∙ ap size_n f.before.before.read-header.ensures.code
 
 inside : (f : tie.After-frame-values) → from (start f) + N f ≤ length (start f).args.values.now
 inside f = omega (arith, size f, frame (start f))
@@ -57,10 +57,10 @@ inside f = omega (arith, size f, frame (start f))
 abbrev part : tie.After-frame-values → List Float
 part f = let z = start f in take (from z + N f - from z) (drop (from z) z.args.values.now)
 
-part-is : (f : tie.After-frame-values) → let z = start f in part f ≡ get_or (framesOf z.args.values.now (pairsOf z.args.pairs.now)) z.args.place []
-part-is f =
+part_is : (f : tie.After-frame-values) → let z = start f in part f ≡ get_or (frames_of z.args.values.now (pairs_of z.args.pairs.now)) z.args.place []
+part_is f =
     let z = start f in
-    sym (rw (← size f) at (frame_at z.args.values.now z.args.pairs.now (sizeN (code z)) z.args.place z.pre.1.0 z.pre.1.1.0))
+    sym (rw (← size f) at (frame_at z.args.values.now z.args.pairs.now (size_n (code z)) z.args.place z.pre.1.0 z.pre.1.1.0))
 
 -- the array's front
 abbrev room : tie.After-word-room → List ℕ
@@ -137,7 +137,7 @@ find-reason-requires c κs =
     let known = f.before.before.read-header.ensures.code in (
       omega (arith, known, z.pre.0.1),
       (
-        part-size z.args.values.now (from z) (N f) (inside f) ∙ f.frame-values.ensures,
+        part_size z.args.values.now (from z) (N f) (inside f) ∙ f.frame-values.ensures,
         (sym (part_length (room w) _ (fits w)) ∙ f.frame-values.ensures, search rules),
       ),
     )
@@ -158,7 +158,7 @@ reason-line-requires c κs =
       omega (arith, known, z.pre.0.1),
       (
         sym (back-length (room (lent d)) _ (fits (lent d)) (word d) (kept d)) ∙ f.frame-values.ensures,
-        (reason-named h.code h.rule h.scale (part f) h.limit d.find-reason.ensures.0, z.pre.1.1.1),
+        (reason_named h.code h.rule h.scale (part f) h.limit d.find-reason.ensures.0, z.pre.1.1.1),
       ),
     )
 
@@ -173,8 +173,8 @@ returns c =
     let z = start f in
     let found = d.find-reason.ensures in
     let line =
-    frame-line z.args.input.now (head f) f.before.before.read-header.ensures z.args.values.now (pairsOf z.args.pairs.now) (part f) _
-    (part-is f)
+    frame-line z.args.input.now (head f) f.before.before.read-header.ensures z.args.values.now (pairs_of z.args.pairs.now) (part f) _
+    (part_is f)
     (front d ∙ found.1.0) found.0 in
     (rw line at done.reason-line.ensures.0, done.reason-line.ensures.1)
 

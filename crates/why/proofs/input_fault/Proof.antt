@@ -3,11 +3,11 @@ use mathlib.Core.Path.{◌≡◌, sym, ap, ◌∙◌}
 use mathlib.Core.List.{List}
 use Prim.Native.Nat.{ℕ, ◌*◌}
 use native.Mathlib.Omega.{arith}
-use Rattle.refusal.specs.Answers.{statusOf}
+use Rattle.refusal.specs.Answers.{status_of}
 use Rattle.refusal.proofs.Judged.{verdict}
 use Rattle.batch.specs.Calls.{refusals}
-use Rattle.batch_input.specs.Input.{pairCount}
-use Rattle.batch_input.specs.Handed.{batchIn}
+use Rattle.batch_input.specs.Input.{pair_count}
+use Rattle.batch_input.specs.Handed.{batch_in}
 use Rattle.batch_input.proofs.Wellformed.{wellformed}
 use Rattle.why.proofs.Asked.{room_fits, batch-verdict, batch-refused, place-refused, none-refused}
 use borrow.Author.Rules.{rules}
@@ -26,11 +26,11 @@ abbrev input : tie.After-message-bits → List ℕ
 input m = (entry (head m)).args.input.now
 
 -- as many frames as the header says
-frames : (m : tie.After-message-bits) → m.before.pair-count.result ≡ pairCount (input m)
+frames : (m : tie.After-message-bits) → m.before.pair-count.result ≡ pair_count (input m)
 frames m = m.before.pair-count.ensures.0
 
 -- what the batch's test found
-found : (b : tie.After-batch-fault) → statusOf b.batch-fault.result ≡ verdict (refusals (batchIn (input b.before)))
+found : (b : tie.After-batch-fault) → status_of b.batch-fault.result ≡ verdict (refusals (batch_in (input b.before)))
 found b =
     let m = b.before in
     let a = entry (head m) in
@@ -65,7 +65,7 @@ returns : tie.Need-returns
 returns c =
     let told = c.before in
     let b = told.before.before in
-    batch-refused (input b.before) (entry (head b.before)).args.place _ (sym (found b) ∙ ap statusOf told.r.given.1)
+    batch-refused (input b.before) (entry (head b.before)).args.place _ (sym (found b) ∙ ap status_of told.r.given.1)
 
 enum_told : tie.Need-enum-told
 enum_told c = search rules
@@ -75,14 +75,14 @@ returns-2 c =
     let told = c.before in
     let b = told.before.before in
     let m = b.before in
-    place-refused (input m) (entry (head m)).args.place (sym (found b) ∙ ap statusOf told.enum_told.given.1) (omega (arith, frames m, c.if1.true))
+    place-refused (input m) (entry (head m)).args.place (sym (found b) ∙ ap status_of told.enum_told.given.1) (omega (arith, frames m, c.if1.true))
 
 returns-3 : tie.Need-returns-3
 returns-3 c =
     let told = c.before in
     let b = told.before.before in
     let m = b.before in
-    none-refused (input m) (entry (head m)).args.place (sym (found b) ∙ ap statusOf told.enum_told.given.1) (omega (arith, frames m, c.if1.false))
+    none-refused (input m) (entry (head m)).args.place (sym (found b) ∙ ap status_of told.enum_told.given.1) (omega (arith, frames m, c.if1.false))
 
 pub input-fault-spec : {M : Type 1} → statement M
 input-fault-spec =

@@ -3,9 +3,9 @@ use mathlib.Core.Path.{◌≡◌, sym, ap, ap₂, ◌∙◌}
 use mathlib.Core.List.{List}
 use Prim.Native.Nat.{ℕ}
 use native.Mathlib.Omega.{arith}
-use Rattle.text.proofs.Lengths.{refusal-short}
+use Rattle.text.proofs.Lengths.{refusal_short}
 use Rattle.batch_input.specs.Input.{malformed}
-use Rattle.why.specs.Why.{batchOf, askedLine}
+use Rattle.why.specs.Why.{batch_of, asked_line}
 use Rattle.why.proofs.Whole.{rest-is, cut_line, malformed-line, asked-why}
 use borrow.Author.Rules.{rules}
 use Rattle.why.proofs.why.Statement.{statement}
@@ -20,13 +20,13 @@ abbrev input : tie.After-is-malformed → List ℕ
 input m = (entry m).args.input.now
 
 -- what was tested is the batch after the place
-tested : (m : tie.After-is-malformed) → m.is-malformed.result ≡ malformed (batchOf (input m))
+tested : (m : tie.After-is-malformed) → m.is-malformed.result ≡ malformed (batch_of (input m))
 tested m = m.is-malformed.ensures ∙ ap malformed (rest-is (input m))
 
 -- ---- the needs
 
 refusal-line-requires : tie.Need-refusal-line-requires
-refusal-line-requires c κs = omega (arith, refusal-short 13)
+refusal-line-requires c κs = omega (arith, refusal_short 13)
 
 same_length : tie.Need-same-length
 same_length c = search rules
@@ -36,7 +36,7 @@ returns c =
     let done = c.before.before in
     let cut = done.before.before in
     let wrote = done.refusal-line.ensures in
-    (rw (cut_line cut.before.before.before.args.input.now cut.if1.true) at wrote, omega (arith, wrote.end, refusal-short 13))
+    (rw (cut_line cut.before.before.before.args.input.now cut.if1.true) at wrote, omega (arith, wrote.end, refusal_short 13))
 
 sub-is-malformed : tie.Need-overflow-sub-is-malformed
 sub-is-malformed c = search rules
@@ -51,7 +51,7 @@ is-malformed-requires : tie.Need-is-malformed-requires
 is-malformed-requires c κs = search rules
 
 refusal-line-requires-2 : tie.Need-refusal-line-requires-2
-refusal-line-requires-2 c κs = omega (arith, refusal-short 13)
+refusal-line-requires-2 c κs = omega (arith, refusal_short 13)
 
 same-length-2 : tie.Need-same-length-2
 same-length-2 c = search rules
@@ -63,7 +63,7 @@ returns-2 c =
     let m = bad.before in
     let wrote = done.refusal-line2.ensures in
     let line = malformed-line (input m) m.before.before.if1.false (sym (tested m) ∙ bad.if2.true) in
-    (rw line at wrote, omega (arith, wrote.end, refusal-short 13))
+    (rw line at wrote, omega (arith, wrote.end, refusal_short 13))
 
 u16-at-requires : tie.Need-u16-at-requires
 u16-at-requires c κs = search rules
@@ -92,7 +92,7 @@ returns-3 c =
     let whole = read.before in
     let m = whole.before in
     let batch = rest-is (input m) in
-    let asked = ap₂ askedLine read.u16-at.ensures batch ∙ asked-why (input m) m.before.before.if1.false (sym (tested m) ∙ whole.if2.false) in
+    let asked = ap₂ asked_line read.u16-at.ensures batch ∙ asked-why (input m) m.before.before.if1.false (sym (tested m) ∙ whole.if2.false) in
     (rw asked at done.why-input.ensures.0, done.why-input.ensures.1)
 
 pub why-spec : {M : Type 1} → statement M

@@ -3,12 +3,12 @@ use mathlib.Core.Path.{◌≡◌, sym, ap, ◌∙◌}
 use mathlib.Core.List.{List}
 use Prim.Native.Nat.{ℕ}
 use native.Mathlib.Omega.{arith}
-use Rattle.refusal.specs.Answers.{statusOf}
+use Rattle.refusal.specs.Answers.{status_of}
 use Rattle.refusal.proofs.Judged.{verdict, nothing}
-use Rattle.text.specs.Text.{refusalLine}
-use Rattle.text.proofs.Lengths.{refusal-short}
+use Rattle.text.specs.Text.{refusal_line}
+use Rattle.text.proofs.Lengths.{refusal_short}
 use Rattle.batch_input.proofs.Wellformed.{wellformed}
-use Rattle.why.specs.Why.{askedRefusals}
+use Rattle.why.specs.Why.{asked_refusals}
 use Rattle.why.proofs.Asked.{asked-refused, known-code, pairs-inside, place_inside, asked-line}
 use borrow.Author.Rules.{rules}
 use Rattle.why.proofs.why_frame.Statement.{statement}
@@ -23,8 +23,8 @@ abbrev input : tie.After-input-fault → List ℕ
 input f = (entry f).args.input.now
 
 -- the place and the batch were accepted
-passed : (t : tie.After-enum-told) → let f = t.before.before in verdict (askedRefusals (entry f).args.place (input f)) ≡ nothing
-passed t = let f = t.before.before in sym f.input-fault.ensures ∙ ap statusOf t.enum_told.given.1
+passed : (t : tie.After-enum-told) → let f = t.before.before in verdict (asked_refusals (entry f).args.place (input f)) ≡ nothing
+passed t = let f = t.before.before in sym f.input-fault.ensures ∙ ap status_of t.enum_told.given.1
 
 -- ---- the needs
 
@@ -41,7 +41,7 @@ cast-refusal-line : tie.Need-overflow-cast-refusal-line
 cast-refusal-line c = search rules
 
 refusal-line-requires : tie.Need-refusal-line-requires
-refusal-line-requires c κs = let f = c.before.before.before.before.before in omega (arith, refusal-short c.number.result, (entry f).requires.1.1.1)
+refusal-line-requires c κs = let f = c.before.before.before.before.before in omega (arith, refusal_short c.number.result, (entry f).requires.1.1.1)
 
 same_length : tie.Need-same-length
 same_length c = search rules
@@ -52,10 +52,10 @@ returns c =
     let named = done.before in
     let told = named.before.before.before in
     let f = told.before.before in
-    let v = sym f.input-fault.ensures ∙ ap statusOf told.r.given.1 in
-    let line = ap refusalLine named.number.ensures ∙ asked-refused (input f) (entry f).args.place _ v in
+    let v = sym f.input-fault.ensures ∙ ap status_of told.r.given.1 in
+    let line = ap refusal_line named.number.ensures ∙ asked-refused (input f) (entry f).args.place _ v in
     let wrote = done.refusal-line.ensures in
-    (rw line at wrote, omega (arith, wrote.end, refusal-short named.number.result))
+    (rw line at wrote, omega (arith, wrote.end, refusal_short named.number.result))
 
 enum_told : tie.Need-enum-told
 enum_told c = search rules

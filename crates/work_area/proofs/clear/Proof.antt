@@ -18,8 +18,8 @@ decreases-loop part₀ i₀ part i = length part₀ - i
 loop-holds : tie.Need-loop-init invariant-loop decreases-loop
 loop-holds c = search rules
 
-mul-part : tie.Need-overflow-mul-part invariant-loop decreases-loop
-mul-part c = search rules
+mul_part : tie.Need-overflow-mul-part invariant-loop decreases-loop
+mul_part c = search rules
 
 slice-write-part : tie.Need-slice-write-part invariant-loop decreases-loop
 slice-write-part c = search rules
@@ -56,7 +56,7 @@ clear_spec =
     invariant-loop
     decreases-loop
     loop-holds
-    mul-part
+    mul_part
     slice-write-part
     add-i
     loop-less

@@ -1,6 +1,6 @@
 -- `desklink::totals::desklink_totals_add_unguarded` meets its contract: the answer of the call beneath, told as numbers. Assumes nothing.
-use Rattle.coded.proofs.Signed.{read_back}
-use Rattle.desklink.proofs.Figures.{writes-told}
+use Rattle.coded.proofs.Signed.{read_back_lem}
+use Rattle.desklink.proofs.Figures.{writes_told}
 use borrow.Author.Rules.{rules}
 use Rattle.desklink.proofs.totals.desklink_totals_add_unguarded.Statement.{statement}
 use Rattle.desklink.proofs.totals.desklink_totals_add_unguarded.Tie as tie
@@ -13,7 +13,7 @@ summed-code-requires c κs = search rules
 
 returns : tie.Need-returns
 returns c =
-    writes-told c.before.before.before.before.before.add-batch.ensures c.summed-code.ensures (read_back (record { sfits = c.summed-code.type-inv }))
+    writes_told c.before.before.before.before.before.add-batch.ensures c.summed-code.ensures (read_back_lem (record { sfits = c.summed-code.type-inv }))
 
 pub desklink-totals-add-unguarded-spec : {M : Type 1} → statement M
 desklink-totals-add-unguarded-spec =
