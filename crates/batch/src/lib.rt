@@ -1,4 +1,6 @@
 // The batch: many frames of one code, decoded one after another in one work area.
+#![tactic(auto)]
+
 ghost use Rattle.std.specs.Prelude.{◌≡◌};
 ghost use Rattle.refusal.specs.Answers.{status_of};
 ghost use Rattle.rules.specs.Rules.{as_stored};

@@ -1,4 +1,6 @@
 // The input of a program that reads a batch: little-endian numbers, the header, the pairs and the values.
+#![tactic(auto)]
+
 ghost use Rattle.std.specs.Prelude.{◌≡◌, false, ◌+◌, ◌*◌, ◌<◌, ◌≤◌, min, length, take};
 ghost use Rattle.batch_input.specs.Input.{u16_at, u32_at, u32s_from, float_of, pair_count, values_start, pair_numbers, values_of, malformed};
 ghost use Rattle.batch_input.specs.Read.{Read, HeaderOf};

@@ -1,4 +1,6 @@
 // What a batch is refused for: the numbers and the lengths, then the pairs, one after another; and the sizes by which they are measured.
+#![tactic(auto)]
+
 ghost use Rattle.std.specs.Prelude.{◌≡◌, ◌<◌};
 ghost use Rattle.refusal.specs.Outcome.{judged};
 ghost use Rattle.refusal.specs.Answers.{status_of};

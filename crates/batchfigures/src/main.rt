@@ -1,5 +1,7 @@
 // Reception figures of batches: each argument names a file that holds a batch as `batchlist` takes it. A file that is not counted gets a line with its place
 // among the arguments, from 1, and the reason; the last line has the figures of all frames counted.
+#![tactic(auto)]
+
 ghost use Rattle.std.specs.Prelude.{◌≡◌, ◌≤◌, length};
 
 use figures::Totals;

@@ -1,4 +1,6 @@
 // Lists a batch: standard input is decoded, and its listing is written to standard output.
+#![tactic(auto)]
+
 ghost use Rattle.std.specs.Prelude.{◌≡◌, length};
 
 use libc::STDIN_FILENO;

@@ -1,4 +1,6 @@
 // Explains a frame of a batch: standard input is a frame's place and a batch, and the reason why that frame is open is written to standard output.
+#![tactic(auto)]
+
 ghost use Rattle.std.specs.Prelude.{◌≡◌, length};
 
 use libc::STDIN_FILENO;

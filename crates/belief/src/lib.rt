@@ -1,4 +1,6 @@
 // The round loop that both decoders run, at the code with a given number and by any decode rule: the messages lie by slots in a lent work area.
+#![tactic(auto)]
+
 ghost use Rattle.std.specs.Prelude.{◌≡◌, ◌<◌, ◌≤◌, length};
 ghost use Rattle.passes.specs.Codes.{size_n, checks_by, room};
 ghost use Rattle.work_area.specs.Area.{cleared};

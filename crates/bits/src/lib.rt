@@ -1,5 +1,7 @@
 // Numbers, bytes and the bits that they write: definitions (`specs/Bits.antt`) and laws (`proofs/Digits.antt`, `proofs/Packed.antt`) for the crates above,
 // and the number of bytes that bits need.
+#![tactic(auto)]
+
 ghost use Rattle.std.specs.Prelude.{◌≡◌};
 ghost use Rattle.bits.specs.Bits.{bytes_for};
 

@@ -1,4 +1,6 @@
 // The second engine of min-sum: each entry's answer from its other entries alone.
+#![tactic(auto)]
+
 ghost use Rattle.std.specs.Prelude.{◌≡◌, ◌++◌, length};
 ghost use Rattle.softmath.specs.Single.{fold_from};
 ghost use Rattle.by_others.specs.Others.{lesser_of, turned_by, others_answer, others_sum};

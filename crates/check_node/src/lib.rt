@@ -1,5 +1,7 @@
 // The check step of every check of a code at once, over messages that lie by slots: with m checks of d entries each, entry j of check c lies at
 // place j * m + c. The pads are set, and then the rule's products or minima are called.
+#![tactic(auto)]
+
 ghost use Rattle.std.specs.Prelude.{◌≡◌, List, ◌*◌, Float, length};
 ghost use Rattle.lists.specs.Below.{Below};
 ghost use Rattle.softmath.specs.Single.{product};

@@ -1,4 +1,6 @@
 // The first unsatisfied check of a word as one number, as a batch and the C interface hand it out.
+#![tactic(auto)]
+
 ghost use Rattle.std.specs.Prelude.{◌≡◌};
 ghost use Rattle.tanner.specs.Found.{first_of};
 ghost use Rattle.check_places.specs.Places.{place_of};

@@ -1,4 +1,6 @@
 // The FT8 checksum (CRC-14) of the first bits of a message, in a register that is turned once for each bit.
+#![tactic(auto)]
+
 ghost use Rattle.std.specs.Prelude.{◌≡◌, ◌*◌, ◌/◌, ◌^◌, ◌≤◌, length};
 ghost use Rattle.bits.specs.Bits.{bytes_for};
 ghost use Rattle.checksum.specs.Register.{turn, register, crc14};

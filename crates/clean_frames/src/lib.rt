@@ -1,4 +1,6 @@
 // Whether the frames of a batch are clean, of what its call wrote.
+#![tactic(auto)]
+
 ghost use Rattle.std.specs.Prelude.{◌≡◌, ◌*◌, ◌<◌, ◌≤◌, length};
 ghost use Rattle.batch.specs.Codes.{size_n, size_k};
 ghost use Rattle.batch.specs.Pairs.{pairs_of, frames_of, AllWithin};

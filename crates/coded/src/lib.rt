@@ -1,4 +1,6 @@
 // An answer as one signed number of C: a value as it is, and a refusal as minus its number.
+#![tactic(auto)]
+
 ghost use Rattle.std.specs.Prelude.{◌≡◌, pos, neg_ℤ};
 ghost use Rattle.refusal.specs.Answers.{answer_of, status_of};
 ghost use Rattle.refusal.specs.Numbers.{number_of};

@@ -1,4 +1,6 @@
 // Reception figures as numbers of C: 0 or minus a refusal's number, and the figures through the references lent for them.
+#![tactic(auto)]
+
 ghost use Rattle.figures.specs.Totals.{summed_of, figure_of};
 ghost use Rattle.coded_figures.specs.Figures.{totals, fraction, Writes};
 

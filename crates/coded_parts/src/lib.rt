@@ -1,4 +1,6 @@
 // Answers that tell more than a number: one signed number of C, and the rest through the references lent for it.
+#![tactic(auto)]
+
 ghost use Rattle.std.specs.Prelude.{◌≡◌, ◌<◌};
 ghost use Rattle.tanner.specs.Found.{counting_of};
 ghost use Rattle.decoders.specs.Calls.{decoding_of};

@@ -1,4 +1,6 @@
 // A column of rows: whether it holds one, the flags and the loads of its rows, and its sorting.
+#![tactic(auto)]
+
 ghost use Rattle.std.specs.Prelude.{◌≡◌, [], ◌∷◌, ◌*◌, ◌≤◌, ◌<◌, length, take, replicate};
 ghost use Rattle.columns.specs.Rows.{holds, sorted};
 ghost use Rattle.columns.specs.Tables.{columns_in, Marked, MarkedWith, AllMarked, Loaded, Room};

@@ -1,4 +1,6 @@
 // The construction of the staircase codes' message columns, proved to give what `specs/Columns.antt` says.
+#![tactic(auto)]
+
 pub mod codes;
 
 ghost use Rattle.std.specs.Prelude.{◌≡◌, ◌+◌, ◌*◌, ◌≤◌, ◌<◌, length};

@@ -1,4 +1,6 @@
 // A word's count and its first open check by its code's number.
+#![tactic(auto)]
+
 ghost use Rattle.std.specs.Prelude.{◌≡◌, ◌<◌, length};
 ghost use Rattle.tanner.specs.Masked.{count_masked, first_masked};
 ghost use Rattle.tanner.specs.Found.{first_of};

@@ -1,4 +1,6 @@
 // The calls of the FT8 checksum (CRC-14): taken of bits, appended to a payload, and read back from a block.
+#![tactic(auto)]
+
 ghost use Rattle.std.specs.Prelude.{◌≡◌, ◌++◌, ◌^◌, ◌≤◌, ◌<◌, length, take, drop};
 ghost use Rattle.refusal.specs.Outcome.{judged, kept};
 ghost use Rattle.refusal.specs.Answers.{answer_of, status_of};

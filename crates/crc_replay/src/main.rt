@@ -1,5 +1,7 @@
 // Replays the Rust's answers: reads messages of 25 bytes, and prints for each the checksums that tools/crc_replay.rs describes.
 // The file stdout holds what the Rust printed for the messages of the file stdin.
+#![tactic(auto)]
+
 use libc::STDOUT_FILENO;
 use refusal::{Answer, Status};
 

@@ -1,4 +1,6 @@
 // Prints a line for each staircase code: the code, its cycles of length four, its relaxed picks.
+#![tactic(auto)]
+
 use cycles::Listed;
 use libc::STDOUT_FILENO;
 

@@ -1,4 +1,6 @@
 // The batch of a program's input, decoded into lent arrays.
+#![tactic(auto)]
+
 ghost use Rattle.std.specs.Prelude.{◌≡◌, false, ◌≤◌, length, take};
 ghost use Rattle.refusal.specs.Outcome.{accepted, judged};
 ghost use Rattle.refusal.specs.Answers.{status_of};

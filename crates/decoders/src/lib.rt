@@ -1,4 +1,6 @@
 // The soft decoders of the staircase codes and of (174,91): the round loop of `belief` at each code's number.
+#![tactic(auto)]
+
 ghost use Rattle.decoders.specs.Calls.{decoding_of, Answered, soft_with, soft, ft8_soft};
 
 use refusal::Refusal;

@@ -1,4 +1,6 @@
 // The C interface: each call on numbers and slices, its answer one signed number. What more a call tells goes through the references lent for it.
+#![tactic(auto)]
+
 mod totals;
 
 ghost use Rattle.std.specs.Prelude.{◌≡◌, not, eqb, length};

@@ -1,4 +1,6 @@
 // Decimal numbers of up to 64 bits, written into a lent buffer.
+#![tactic(auto)]
+
 ghost use Rattle.std.specs.Prelude.{◌+◌, ◌<◌, ◌≤◌, length};
 ghost use Rattle.text.specs.Text.{leading};
 ghost use Rattle.text.specs.Written.{Written};

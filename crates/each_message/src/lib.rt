@@ -1,4 +1,6 @@
 // What a rule does to each message before the checks, and to each answer after them: one value after another, in any part of the work area.
+#![tactic(auto)]
+
 ghost use Rattle.std.specs.Prelude.{◌≡◌, map};
 ghost use Rattle.softmath.specs.Single.{◌⊘◌};
 ghost use Rattle.softmath.specs.Functions.{tanh};

@@ -1,4 +1,6 @@
 // The converter between the other maker's soft values, one signed byte a bit in eighths, and our f32 values.
+#![tactic(auto)]
+
 ghost use Rattle.std.specs.Prelude.{◌≡◌, false, not, length};
 ghost use Rattle.refusal.specs.Outcome.{judged, kept};
 ghost use Rattle.refusal.specs.Answers.{status_of};

@@ -1,4 +1,6 @@
 // Mending: the unknown bits of a recorded word that its code's checks decide, for the four codes by number.
+#![tactic(auto)]
+
 ghost use Rattle.std.specs.Prelude.{◌≡◌, length};
 ghost use Rattle.refusal.specs.Outcome.{judged, kept};
 ghost use Rattle.refusal.specs.Answers.{answer_of};

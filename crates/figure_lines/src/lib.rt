@@ -1,4 +1,6 @@
 // The lines of the reception figures, written into a lent buffer: that of a total, and that of a file that is not counted.
+#![tactic(auto)]
+
 ghost use Rattle.std.specs.Prelude.{◌+◌, ◌≤◌, length};
 ghost use Rattle.text.specs.Written.{Written};
 ghost use Rattle.figure_lines.specs.Lines.{sums_text, fraction_text, figures_text, totals_line, file_line};

@@ -1,4 +1,6 @@
 // What `batchfigures` does with a file: its batch is added to the total, or the file has a line that says why it is not.
+#![tactic(auto)]
+
 ghost use Rattle.std.specs.Prelude.{◌≤◌, length};
 ghost use Rattle.figure_report.specs.Report.{file_of, Stepped};
 

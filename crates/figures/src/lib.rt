@@ -1,4 +1,6 @@
 // Reception figures: totals over many batches, and fractions of them in lowest terms.
+#![tactic(auto)]
+
 ghost use Rattle.std.specs.Prelude.{◌≡◌};
 ghost use Rattle.refusal.specs.Outcome.{judged};
 ghost use Rattle.figures.specs.Fraction.{gcd, lowest};

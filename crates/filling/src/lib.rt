@@ -1,4 +1,6 @@
 // Mending over any check list: the unknown bits of a recorded word that its checks decide, one after another.
+#![tactic(auto)]
+
 ghost use Rattle.std.specs.Prelude.{◌≡◌, ◌<◌, length};
 ghost use Rattle.refusal.specs.Answers.{answer_of};
 ghost use Rattle.tanner.specs.Flat.{FlatChecks, rows_of};

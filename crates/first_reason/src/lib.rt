@@ -1,4 +1,6 @@
 // The first reason that applies of a frame, from its values and its word: a NaN among its values, an unsatisfied check or a wrong checksum.
+#![tactic(auto)]
+
 ghost use Rattle.std.specs.Prelude.{◌≡◌, ◌≤◌, length, take};
 ghost use Rattle.tanner.specs.Found.{first_of};
 ghost use Rattle.numbered.specs.Codes.{size_k};

@@ -1,6 +1,8 @@
 // Replays published FT8 vectors, made by `ft8code` of Debian's package wsjtx with tools/ft8_vectors.py: each line of the file stdin
 // has the 77 source bits, the 14 checksum bits, the 83 parity bits and the message. The program packs the 77 bits alone, appends the
 // checksum, reads it back, encodes, and prints the payload, the checksum read back and the parity: the line's first three fields.
+#![tactic(auto)]
+
 use libc::STDOUT_FILENO;
 use refusal::{Answer, Status};
 

@@ -1,4 +1,6 @@
 // Groups of frames that belong together: the sizes that a call hands over, and the bit bytes of the groups, delivered whole or withheld.
+#![tactic(auto)]
+
 ghost use Rattle.std.specs.Prelude.{◌≡◌, ◌*◌, ◌≤◌, length, replicate};
 ghost use Rattle.refusal.specs.Outcome.{judged};
 ghost use Rattle.refusal.specs.Answers.{status_of};

@@ -1,4 +1,6 @@
 // A batch with a list of group sizes: the frames of a move are delivered together, or none of them is.
+#![tactic(auto)]
+
 ghost use Rattle.std.specs.Prelude.{◌≡◌, ◌++◌, ◌*◌, ◌≤◌, length};
 ghost use Rattle.refusal.specs.Outcome.{judged};
 ghost use Rattle.refusal.specs.Answers.{status_of};

@@ -1,4 +1,6 @@
 // The reception figures of a program's input: its batch is read and decoded, and its frames are added to a total.
+#![tactic(auto)]
+
 ghost use Rattle.std.specs.Prelude.{◌≡◌, false, take};
 ghost use Rattle.batch_input.specs.Input.{pair_numbers, values_of, malformed};
 ghost use Rattle.figures.specs.Totals.{summed_of};

@@ -1,4 +1,6 @@
 // The (174,91) LDPC code of FT8: its checks in tables, and the count of unsatisfied checks.
+#![tactic(auto)]
+
 ghost use Rattle.std.specs.Prelude.{◌≡◌, ◌∷◌, ◌<◌, ◌≤◌, length, get_or, drop};
 ghost use Rattle.refusal.specs.Outcome.{judged};
 ghost use Rattle.tanner.specs.Checks.{xor_from, syndrome_of_bytes};

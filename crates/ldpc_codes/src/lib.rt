@@ -1,4 +1,6 @@
 // The staircase codes: encoding and counting by a code's number, each call with its refusals.
+#![tactic(auto)]
+
 ghost use Rattle.std.specs.Prelude.{◌≡◌};
 ghost use Rattle.refusal.specs.Outcome.{judged, kept};
 ghost use Rattle.refusal.specs.Answers.{status_of};

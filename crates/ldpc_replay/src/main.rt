@@ -1,6 +1,8 @@
 // Replays the Rust's answers for the (174,91) code: prints the tables, reads 300 messages of 12 bytes and prints the codeword of each, then reads
 // words of 174 bytes and prints the count of each and the first check that it includes, all in hexadecimal.
 // The file stdout holds what the Rust printed (tools/ldpc_replay.rs).
+#![tactic(auto)]
+
 use libc::STDOUT_FILENO;
 use refusal::Status;
 use tanner::{Counting, FirstCheck};

@@ -1,4 +1,6 @@
 // The lines of a batch's frames, written into a lent buffer one after another.
+#![tactic(auto)]
+
 ghost use Rattle.std.specs.Prelude.{◌≡◌, [], ◌+◌, ◌*◌, ◌≤◌, length};
 ghost use Rattle.text.specs.Written.{Written};
 ghost use Rattle.batch.specs.Codes.{size_n, size_k};

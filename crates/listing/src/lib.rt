@@ -1,4 +1,6 @@
 // The listing of a batch: the program's input read, and what is printed for it written into a lent buffer.
+#![tactic(auto)]
+
 ghost use Rattle.std.specs.Prelude.{◌≡◌, [], false, ◌*◌, ◌≤◌, length, take};
 ghost use Rattle.text.specs.Written.{Written};
 ghost use Rattle.batch.specs.Codes.{size_n, size_k};

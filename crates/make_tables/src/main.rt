@@ -1,4 +1,6 @@
 // Prints the tables of the staircase codes from the construction: the text of crates/staircase/src/tables.rt below its first line.
+#![tactic(auto)]
+
 ghost use Rattle.std.specs.Prelude.{◌<◌};
 
 use construction::codes::{N512R12, N512R34, N576R23};

@@ -1,4 +1,6 @@
 // The tables of N512R12, code 0, proved to be what the construction gives. The constants are `staircase`'s.
+#![tactic(auto)]
+
 ghost use Rattle.std.specs.Prelude.{◌≡◌};
 ghost use Rattle.construction.specs.Codes.{n512r12, message_rows};
 

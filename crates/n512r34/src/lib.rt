@@ -1,4 +1,6 @@
 // The tables of N512R34, code 2, proved to be what the construction gives. The constants are `staircase`'s.
+#![tactic(auto)]
+
 ghost use Rattle.std.specs.Prelude.{◌≡◌};
 ghost use Rattle.construction.specs.Codes.{n512r34, message_rows};
 

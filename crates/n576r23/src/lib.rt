@@ -1,4 +1,6 @@
 // The tables of N576R23, code 1, proved to be what the construction gives. The constants are `staircase`'s.
+#![tactic(auto)]
+
 ghost use Rattle.std.specs.Prelude.{◌≡◌};
 ghost use Rattle.construction.specs.Codes.{n576r23, message_rows};
 

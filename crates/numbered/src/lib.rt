@@ -1,1 +1,2 @@
 // The four codes by number: definitions, and no code.
+#![tactic(auto)]

@@ -1,4 +1,6 @@
 // One frame of a batch: decoded by its code's number and its rule's, and its answers put in their places.
+#![tactic(auto)]
+
 ghost use Rattle.std.specs.Prelude.{◌≡◌, ◌≤◌, ◌<◌, length};
 ghost use Rattle.rounds.specs.Told.{Chose};
 ghost use Rattle.work_area.specs.Area.{cleared};

@@ -1,4 +1,6 @@
 // One line of a listing, written into a lent buffer: the head line, or a frame's.
+#![tactic(auto)]
+
 ghost use Rattle.std.specs.Prelude.{◌+◌, ◌≤◌, length};
 ghost use Rattle.text.specs.Written.{Written};
 ghost use Rattle.one_line.specs.Line.{head_line, clean_or_open, first_field, frame_line};

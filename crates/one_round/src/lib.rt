@@ -1,4 +1,6 @@
 // One round at the code with a given number and by any decode rule, the messages by slots; and the count of a word.
+#![tactic(auto)]
+
 ghost use Rattle.std.specs.Prelude.{◌≡◌, List, ◌<◌, Float, length};
 ghost use Rattle.tanner.specs.Masked.{count_masked, syndrome_masked};
 ghost use Rattle.tanner.specs.Found.{syndrome_of};

@@ -1,5 +1,7 @@
 // Words of bits, one bit a byte, packed eight a byte, most significant first, and taken out again: a (174,91) message has 91 bits and 12 bytes,
 // a word 174 and 22.
+#![tactic(auto)]
+
 ghost use Rattle.std.specs.Prelude.{◌≡◌, ◌<◌, ◌≤◌, ◌/◌, length, get_or};
 ghost use Rattle.refusal.specs.Outcome.{judged, kept};
 ghost use Rattle.refusal.specs.Answers.{status_of};

@@ -1,5 +1,7 @@
 // The encoding of each staircase code by its number: the message bytes, and the parity bits filled in after them.
 // A function a code names its table, since a constant is laid where the function that names it starts.
+#![tactic(auto)]
+
 ghost use Rattle.std.specs.Prelude.{◌≡◌, ◌++◌, ◌≤◌, length, drop};
 ghost use Rattle.construction.specs.Codes.{n512r12, n576r23, n512r34, block_length};
 ghost use Rattle.staircase.specs.Staircase.{encoded};

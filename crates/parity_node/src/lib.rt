@@ -1,5 +1,7 @@
 // The parity bits of a staircase code whose messages lie by slots: each bit's first messages, and in a round its decision and its new messages in place of
 // its answers. Their edges lie in the last two slots, one after the other; the last bit has one.
+#![tactic(auto)]
+
 ghost use Rattle.std.specs.Prelude.{◌≡◌, ◌+◌, ◌-◌, ◌≤◌, length};
 ghost use Rattle.variable_node.specs.Passes.{turns, pass_of};
 ghost use Rattle.parity_node.specs.Parity.{parity_turn, parity_first, Paired};

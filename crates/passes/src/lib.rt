@@ -1,5 +1,7 @@
 // The passes of a round at each of the four codes: the one place that names the tables of a code's edges, and its sizes as numbers that the compiler sees.
 // A function a code names its table, since a constant is laid where the function that names it starts.
+#![tactic(auto)]
+
 ghost use Rattle.std.specs.Prelude.{◌≡◌, ◌+◌, ◌<◌, ◌≤◌, length};
 ghost use Rattle.softmath.specs.CheckNode.{check_step};
 ghost use Rattle.softmath.specs.declared.SumKind.TheVariants.{Total};

@@ -1,4 +1,6 @@
 // A pick: the search once round the rows, and the relaxed pick where it yields nothing.
+#![tactic(auto)]
+
 ghost use Rattle.std.specs.Prelude.{◌≡◌, true, ◌-◌, ◌%◌, ◌≤◌, ◌<◌, length};
 ghost use Rattle.columns.specs.Tables.{flag_at};
 ghost use Rattle.picking.specs.Picks.{up_from, once_round, search, first_outside, settled};

@@ -1,4 +1,6 @@
 // A pick stored and marked, and a column of three picks finished, in the tables that the construction keeps.
+#![tactic(auto)]
+
 ghost use Rattle.std.specs.Prelude.{◌<◌, length};
 ghost use Rattle.columns.specs.Tables.{column_at};
 ghost use Rattle.placing.specs.Tables.{Begun, Placed, Finished};

@@ -1,4 +1,6 @@
 // Why a frame is open: the frame is decoded, and the first reason that applies is the answer.
+#![tactic(auto)]
+
 ghost use Rattle.std.specs.Prelude.{◌≡◌, ◌<◌, ◌≤◌, length};
 ghost use Rattle.work_area.specs.Area.{cleared};
 ghost use Rattle.rounds.specs.Rounds.{chosen};

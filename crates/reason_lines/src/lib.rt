@@ -1,4 +1,6 @@
 // The line of each reason, written into a lent buffer; the line of a check over any checks that lie flat.
+#![tactic(auto)]
+
 ghost use Rattle.std.specs.Prelude.{◌+◌, ◌<◌, ◌≤◌, length};
 ghost use Rattle.tanner.specs.Flat.{FlatChecks, rows_of};
 ghost use Rattle.lists.specs.Below.{Below};

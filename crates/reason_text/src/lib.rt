@@ -1,4 +1,6 @@
 // The line that explains a frame of any of the four codes: which reason it is, and what it names, written into a lent buffer.
+#![tactic(auto)]
+
 ghost use Rattle.std.specs.Prelude.{◌≡◌, ◌<◌, ◌≤◌, length};
 ghost use Rattle.text.specs.Written.{Written};
 ghost use Rattle.numbered.specs.Codes.{size_n, checks_by};

@@ -1,4 +1,6 @@
 // A lent list of pair records, each an offset and a length: what a record is, and the check of a batch over such a list, which reads them where they lie.
+#![tactic(auto)]
+
 ghost use Rattle.std.specs.Prelude.{◌≡◌};
 ghost use Rattle.refusal.specs.Outcome.{judged};
 ghost use Rattle.refusal.specs.Answers.{status_of};

@@ -1,5 +1,7 @@
 // The batch over a lent list of pair records. They are read where they lie, by a thin batch call: a record at a time, which is taken by value from
 // there on. Crate `one_frame` does the work; the check is `record_check`'s.
+#![tactic(auto)]
+
 ghost use Rattle.std.specs.Prelude.{◌≡◌};
 ghost use Rattle.refusal.specs.Answers.{status_of};
 ghost use Rattle.work_area.specs.Area.{cleared};

@@ -1,4 +1,6 @@
 // What every call shares: the refusals, one case for each condition of document 01's table and of the change requests, and the two shapes of an answer.
+#![tactic(auto)]
+
 ghost use Rattle.std.specs.Prelude.{◌≡◌};
 ghost use Rattle.refusal.specs.Numbers.{number_of};
 

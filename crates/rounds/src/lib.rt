@@ -1,4 +1,6 @@
 // The rounds of a decode, one after the other, to the first word of count 0 or to the limit.
+#![tactic(auto)]
+
 ghost use Rattle.std.specs.Prelude.{◌≡◌, List, ◌<◌, ◌≤◌, Float, length};
 ghost use Rattle.passes.specs.Codes.{size_n, checks_by, room};
 ghost use Rattle.one_round.specs.Held.{decode_at, HeldBy};

@@ -1,4 +1,6 @@
 // The decode rules by number: the check step that a frame of a code is decoded by.
+#![tactic(auto)]
+
 ghost use Rattle.std.specs.Prelude.{◌≡◌};
 ghost use Rattle.rules.specs.Rules.{staircase_rule, ft8_rule, rule_of, as_stored};
 

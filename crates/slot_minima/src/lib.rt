@@ -1,6 +1,8 @@
 // Min-sum at every check of a code, over messages that lie by slots: with m checks of d entries each, entry j of check c lies at place j * m + c. Check by
 // check the entries are seen, and then answered in place; of a check the least magnitude, the second and the sign are kept, without a place. Where m and d
 // are numbers that the compiler sees it takes a check's loops apart, and works on several checks at a time.
+#![tactic(auto)]
+
 ghost use Rattle.std.specs.Prelude.{◌≡◌, cond, map, ◌*◌, ◌<◌, length};
 ghost use Rattle.std.specs.Float.Ieee.{lt, eq};
 ghost use Rattle.softmath.specs.CheckNode.{min_sum, factor_of};

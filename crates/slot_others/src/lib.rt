@@ -1,5 +1,7 @@
 // The second engine of min-sum over messages that lie by slots: check by check the messages are taken out of their slots, answered each from its others,
 // and the answers put in their place.
+#![tactic(auto)]
+
 ghost use Rattle.std.specs.Prelude.{◌≡◌, ◌*◌, ◌<◌, ◌≤◌, length, take};
 ghost use Rattle.softmath.specs.CheckNode.{min_sum, factor_of};
 ghost use Rattle.by_others.specs.Others.{others_sum};

@@ -1,6 +1,8 @@
 // At every check of a code the products of its other entries, over messages that lie by slots: with m checks of d entries each, entry j of check c lies at
 // place j * m + c. Check by check a column is turned in place. Where m and d are numbers that the compiler sees it takes a check's loops apart, and works
 // on several checks at a time.
+#![tactic(auto)]
+
 ghost use Rattle.std.specs.Prelude.{◌≡◌, ◌*◌, ◌<◌, length, drop};
 ghost use Rattle.softmath.specs.Single.{◌⊗◌, fold_from, product};
 ghost use Rattle.softmath.specs.CheckNode.{at_each};

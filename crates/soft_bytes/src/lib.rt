@@ -1,4 +1,6 @@
 // One soft value of the other maker, a signed byte in eighths, and our f32 value.
+#![tactic(auto)]
+
 ghost use Rattle.std.specs.Prelude.{◌≡◌, true, false};
 ghost use Rattle.std.specs.Float.Ieee.{lt};
 ghost use Rattle.soft_bytes.specs.Values.{value_of, whole_eighths, minus_zero, passes, byte_of};

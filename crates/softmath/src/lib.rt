@@ -1,4 +1,6 @@
 // The f32 arithmetic of a decoding round: the functions of one or two values. Each operation is rounded once, in a fixed order.
+#![tactic(auto)]
+
 ghost use Rattle.std.specs.Prelude.{◌≡◌, cond};
 ghost use Rattle.std.specs.Float.Ieee.{lt};
 ghost use Rattle.softmath.specs.Functions.{tanh, atanh, clamp_unit, magnitude_of, decide};

@@ -3,6 +3,8 @@
 //
 // A record is 13 little-endian words. The first holds what to do, then how many floats follow (at most 11);
 // the second is the scale or the channel value; the others are the floats' bits.
+#![tactic(auto)]
+
 ghost use Rattle.std.specs.Prelude.{◌≡◌, ◌<◌, ◌≤◌, length};
 
 use libc::{STDIN_FILENO, STDOUT_FILENO};

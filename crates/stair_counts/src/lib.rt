@@ -1,5 +1,7 @@
 // A staircase code's count and its first open check, by the code's number.
 // The count takes no table: the message part is encoded again, and a row is open where just one of its two parity bits differs from that.
+#![tactic(auto)]
+
 ghost use Rattle.std.specs.Prelude.{◌≡◌, ◌+◌, ◌<◌, ◌≤◌, length};
 ghost use Rattle.tanner.specs.Masked.{count_masked, first_masked, syndrome_masked};
 ghost use Rattle.tanner.specs.Found.{first_of, syndrome_of};

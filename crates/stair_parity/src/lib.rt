@@ -1,5 +1,7 @@
 // The parity bits of a staircase code, filled in row by row after the message bytes: a row has `width` message positions in a table.
 // The bit before is carried along from row to row.
+#![tactic(auto)]
+
 ghost use Rattle.std.specs.Prelude.{◌≡◌, ◌+◌, ◌≤◌, length};
 ghost use Rattle.staircase.specs.Shape.{stair_rows};
 ghost use Rattle.stairs.specs.Stairs.{bit_before};

@@ -1,5 +1,7 @@
 // Replays the Rust's answers for the staircase codes: the rows that the construction gives when it runs, the tables, and encodings, counts
 // and first checks of the words of the file stdin, 576 bytes each. The file stdout holds what the Rust printed (tools/staircase_replay.rs).
+#![tactic(auto)]
+
 use construction::codes::{N512R12, N512R34, N576R23};
 use libc::STDOUT_FILENO;
 use refusal::Status;

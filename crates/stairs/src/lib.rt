@@ -1,5 +1,7 @@
 // The first open row by a staircase code's shape: every row has `width` message positions in a table, then its own parity bit and the one before.
 // The bit before is carried along, so that each byte of the parity is read once.
+#![tactic(auto)]
+
 ghost use Rattle.std.specs.Prelude.{◌≡◌, length};
 ghost use Rattle.tanner.specs.Masked.{first_masked};
 ghost use Rattle.tanner.specs.Found.{first_of};

@@ -1,4 +1,6 @@
 // Stored inputs on standard input, one after the other: each is its length, a little-endian u32, and its bytes.
+#![tactic(auto)]
+
 ghost use Rattle.std.specs.Prelude.{◌<◌, length};
 ghost use Rattle.stored_inputs.specs.Stored.{Held};
 

@@ -1,5 +1,7 @@
 // An input read whole and a text written whole. A read that fails is told from the end, a call is made again where that helps, and what cannot be done is
 // said on standard error: a program has no exit status to say it by.
+#![tactic(auto)]
+
 ghost use Rattle.std.specs.Prelude.{◌-◌, ◌≤◌, length};
 
 use libc::STDOUT_FILENO;

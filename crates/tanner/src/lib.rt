@@ -1,4 +1,6 @@
 // What is counted of a word, and the XOR of the bytes at one check's positions.
+#![tactic(auto)]
+
 ghost use Rattle.std.specs.Prelude.{◌≡◌, length};
 ghost use Rattle.tanner.specs.Checks.{xor_from};
 ghost use Rattle.lists.specs.Below.{Below};

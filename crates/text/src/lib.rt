@@ -1,4 +1,6 @@
 // Texts written into a lent buffer: bytes, decimal numbers, bits in hexadecimal, and the line of a refusal.
+#![tactic(auto)]
+
 ghost use Rattle.std.specs.Prelude.{◌≡◌, [], ◌∷◌, ◌+◌, ◌<◌, ◌≤◌, length};
 ghost use Rattle.text.specs.Written.{Written};
 ghost use Rattle.text.specs.Text.{leading, decimal, bit_at, byte_at, hex_digit, hex_byte, hex_word, hex, field, refusal_line};

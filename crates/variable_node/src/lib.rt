@@ -1,5 +1,7 @@
 // The bits of a code whose messages lie by slots: each bit's first messages, and in a round its decision and its new messages in place of its answers.
 // Here those of three edges, whose places are in a table.
+#![tactic(auto)]
+
 ghost use Rattle.std.specs.Prelude.{◌≡◌, ◌≤◌, length};
 ghost use Rattle.variable_node.specs.Passes.{turns, pass_of, message_to, three_turn, three_first, Listed};
 

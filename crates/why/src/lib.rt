@@ -1,4 +1,6 @@
 // Why a frame of a batch is open, as a line of text: the program's input read, and what is printed for it written into a lent buffer.
+#![tactic(auto)]
+
 ghost use Rattle.std.specs.Prelude.{◌≡◌, [], false, ◌+◌, ◌<◌, ◌≤◌, length, take};
 ghost use Rattle.refusal.specs.Outcome.{judged};
 ghost use Rattle.refusal.specs.Answers.{status_of};

@@ -1,4 +1,6 @@
 // The places that a decode writes beside the rounds: the initial word, the front of a word, and the work area, which is left cleared.
+#![tactic(auto)]
+
 ghost use Rattle.std.specs.Prelude.{◌≡◌, map, ◌≤◌, length, take, replicate};
 ghost use Rattle.softmath.specs.Single.{zero32};
 ghost use Rattle.softmath.specs.Functions.{decide};

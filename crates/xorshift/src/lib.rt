@@ -1,4 +1,6 @@
 // The generator of the staircase codes' construction, xorshift on 64 bits, proved to draw what `specs/Draw.antt` says.
+#![tactic(auto)]
+
 ghost use Rattle.std.specs.Prelude.{◌≡◌, ◌<◌};
 ghost use Rattle.xorshift.specs.Draw.{left, draw};
 
