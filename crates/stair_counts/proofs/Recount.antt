@@ -84,10 +84,10 @@ module _ (k : ℕ) (cols : List (List ℕ)) (size : length cols ≤ k) (u w : Li
   row_apart i z =
       row_low w refl i ∙ odd-apart _ _ _ (sym (row_low u same i) ∙ z) ∙ ap (λ (n : ℕ). n % 2) (omega arith)
 
-  rows_apart : (n i : ℕ) → count (check_rows k cols i n) (low_bits u) ≡ 0 → count (check_rows k cols i n) (low_bits w) ≡ rows_apart k i n u w
+  rows_apart_lem : (n i : ℕ) → count (check_rows k cols i n) (low_bits u) ≡ 0 → count (check_rows k cols i n) (low_bits w) ≡ rows_apart k i n u w
   unfolding check_rows count rows_apart
-  rows_apart zero i z = refl
-  rows_apart (suc n) i z = omega (arith, row_apart i (omega arith), rows_apart n (suc i) (omega arith))
+  rows_apart_lem zero i z = refl
+  rows_apart_lem (suc n) i z = omega (arith, row_apart i (omega arith), rows_apart_lem n (suc i) (omega arith))
 
 pub recount : (c : Code) (w : List ℕ) → block_length c ≤ length w
     → rows_apart c.k 0 c.m (encoded c.m (columns c) (take c.k w)) w ≡ count_masked 1 (checks c) w
@@ -99,7 +99,7 @@ recount c w h =
     let ps = parity_bits (columns c) (low_bits message) 0 c.m 0 in
     let same : take c.k (low_bits (message ++ ps)) ≡ take c.k (low_bits w) =
     rw (low_append message ps) (take_at (low_bits message) (low_bits ps) c.k (low-length message ∙ long) ∙ low-take c.k w) in
-    sym (low_count (checks c) w ∙ rows_apart c.k (columns c) size (message ++ ps) w same c.m 0 (encode-count c.k c.m (columns c) size message long))
+    sym (low_count (checks c) w ∙ rows_apart_lem c.k (columns c) size (message ++ ps) w same c.m 0 (encode-count c.k c.m (columns c) size message long))
 
 -- as the code finds it
 pub recounted : (c : Code) (k m r : ℕ) (u w : List ℕ) → k ≡ c.k → m ≡ c.m → u ≡ encoded c.m (columns c) (take k w) → block_length c ≤ length w

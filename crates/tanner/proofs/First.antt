@@ -83,15 +83,15 @@ module _ (measure : List ℕ → ℕ) where
       rw e (counted (suc c) (omega arith) n (first_shift measure r rs c z below))
   one_more r rs z _ (satisfied all) = satisfied (first_shift measure r rs (length rs) z all)
 
-  first_by : (r : List ℕ) (rs : Checks) (t : Bool) → eqb (measure r) 0 ≡ t → FirstIs measure rs (first_by measure 0 rs)
+  first_by_lem : (r : List ℕ) (rs : Checks) (t : Bool) → eqb (measure r) 0 ≡ t → FirstIs measure rs (first_by measure 0 rs)
       → FirstIs measure (r ∷ rs) (cond t (first_by measure 1 rs) (check 0))
-  first_by r rs true e f = rw (first_moved measure 1 rs) (one_more r rs (eqb-true (measure r) 0 e) (first_by measure 0 rs) f)
-  first_by r rs false e f = counted 0 (omega arith) (eqb-false (measure r) 0 e) (λ j h. absurd (omega arith))
+  first_by_lem r rs true e f = rw (first_moved measure 1 rs) (one_more r rs (eqb-true (measure r) 0 e) (first_by measure 0 rs) f)
+  first_by_lem r rs false e f = counted 0 (omega arith) (eqb-false (measure r) 0 e) (λ j h. absurd (omega arith))
 
   pub first-is : (rs : Checks) → FirstIs measure rs (first_by measure 0 rs)
   unfolding first_by
   first-is [] = satisfied (λ j h. absurd (omega arith))
-  first-is (r ∷ rs) = first_by r rs (eqb (measure r) 0) refl (first-is rs)
+  first-is (r ∷ rs) = first_by_lem r rs (eqb (measure r) 0) refl (first-is rs)
 
 -- ---- none exactly where the count is 0, by a count that adds the measure of each check
 
