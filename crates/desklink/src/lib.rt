@@ -7,18 +7,18 @@ ghost use Rattle.std.specs.Prelude.{◌≡◌, not, eqb, length};
 ghost use Rattle.refusal.specs.Outcome.{judged, kept};
 ghost use Rattle.checksum.specs.Register.{crc14};
 ghost use Rattle.crc.specs.Block.{block, carried};
-ghost use Rattle.crc.specs.Calls as crc·calls;
+ghost use Rattle.crc.specs.Calls as crc_calls;
 ghost use Rattle.rules.specs.Rules.{as_stored};
 ghost use Rattle.tanner.specs.Checks.{syndrome_of_bytes};
-ghost use Rattle.ldpc.specs.Calls as ldpc·calls;
+ghost use Rattle.ldpc.specs.Calls as ldpc_calls;
 ghost use Rattle.code174.specs.Code174.{checks};
-ghost use Rattle.ldpc_encoding.specs.Calls as encoding·calls;
+ghost use Rattle.ldpc_encoding.specs.Calls as encoding_calls;
 ghost use Rattle.ldpc_encoding.specs.Encoding.{codeword_of};
-ghost use Rattle.ldpc_codes.specs.Calls as staircase·calls;
-ghost use Rattle.decoders.specs.Calls as decoders·calls;
+ghost use Rattle.ldpc_codes.specs.Calls as staircase_calls;
+ghost use Rattle.decoders.specs.Calls as decoders_calls;
 ghost use Rattle.batch.specs.Pairs.{pairs_of};
-ghost use Rattle.batch.specs.Calls as batch·calls;
-ghost use Rattle.record_check.specs.Fields as records·fields;
+ghost use Rattle.batch.specs.Calls as batch_calls;
+ghost use Rattle.record_check.specs.Fields as records_fields;
 ghost use Rattle.eighths.specs.Calls.{bytes_refusals, values_refusals, values_of, bytes_of};
 ghost use Rattle.filling.specs.Filling.{filled_word, filled_places, listed};
 ghost use Rattle.numbered.specs.Codes.{checks_by};
@@ -26,7 +26,7 @@ ghost use Rattle.erasure.specs.Calls.{erasure_refusals};
 ghost use Rattle.cycles.specs.Calls.{cycle_refusals, report_by, written_by};
 ghost use Rattle.packing.specs.Packing.{packed_word, unpacked_word, pack_refusals, unpack_refusals};
 ghost use Rattle.clean_frames.specs.Calls.{frame_refusals, clean_number};
-ghost use Rattle.reason.specs.Calls as reason·calls;
+ghost use Rattle.reason.specs.Calls as reason_calls;
 ghost use Rattle.coded.specs.Coded.{coded, coded_unit, lent};
 ghost use Rattle.coded_parts.specs.Parts.{Counts, Lists};
 ghost use Rattle.desklink.specs.Calls.{DecodeCall, BatchCall, GroupsCall, ReasonCall};
@@ -37,23 +37,23 @@ use record_check::Pair;
 
 #[unsafe(no_mangle)]
 pub extern "C" fn desklink_ft8_crc14(message: &[u8], num_bits: usize) -> i32
-    ensures { result ≡ coded (judged (crc·calls.crc14_refusals message.now num_bits) (crc14 message.now num_bits)) }
+    ensures { result ≡ coded (judged (crc_calls.crc14_refusals message.now num_bits) (crc14 message.now num_bits)) }
 {
     coded::answer_code(crc::ft8_crc14(message, num_bits))
 }
 
 #[unsafe(no_mangle)]
 pub extern "C" fn desklink_ft8_add_crc(payload: &[u8], a91: &mut [u8]) -> i32
-    ensures value { result ≡ coded_unit (judged (crc·calls.add_refusals payload.now a91.old) tt) }
+    ensures value { result ≡ coded_unit (judged (crc_calls.add_refusals payload.now a91.old) tt) }
     ensures a91_after { a91.new
-        ≡ kept (crc·calls.add_refusals payload.now a91.old) a91.old (block payload.now) }
+        ≡ kept (crc_calls.add_refusals payload.now a91.old) a91.old (block payload.now) }
 {
     coded::status_code(crc::ft8_add_crc(payload, a91))
 }
 
 #[unsafe(no_mangle)]
 pub extern "C" fn desklink_ft8_extract_crc(a91: &[u8]) -> i32
-    ensures { result ≡ coded (judged (crc·calls.extract_refusals a91.now) (carried a91.now)) }
+    ensures { result ≡ coded (judged (crc_calls.extract_refusals a91.now) (carried a91.now)) }
 {
     coded::answer_code(crc::ft8_extract_crc(a91))
 }
@@ -62,9 +62,9 @@ pub extern "C" fn desklink_ft8_extract_crc(a91: &[u8]) -> i32
 
 #[unsafe(no_mangle)]
 pub extern "C" fn desklink_ldpc_encode(message: &[u8], codeword: &mut [u8]) -> i32
-    ensures value { result ≡ coded_unit (judged (encoding·calls.encode_refusals message.now codeword.old) tt) }
+    ensures value { result ≡ coded_unit (judged (encoding_calls.encode_refusals message.now codeword.old) tt) }
     ensures codeword_after { codeword.new
-        ≡ kept (encoding·calls.encode_refusals message.now codeword.old) codeword.old (codeword_of message.now) }
+        ≡ kept (encoding_calls.encode_refusals message.now codeword.old) codeword.old (codeword_of message.now) }
 {
     coded::status_code(ldpc_encoding::ldpc_encode(message, codeword))
 }
@@ -72,7 +72,7 @@ pub extern "C" fn desklink_ldpc_encode(message: &[u8], codeword: &mut [u8]) -> i
 // `first` gets the lowest check that the count includes, or 65535.
 #[unsafe(no_mangle)]
 pub extern "C" fn desklink_ldpc_count_errors(hard: &[u8], first: &mut u16) -> i32
-    ensures { Counts (judged (ldpc·calls.count_refusals hard.now) (syndrome_of_bytes checks hard.now))
+    ensures { Counts (judged (ldpc_calls.count_refusals hard.now) (syndrome_of_bytes checks hard.now))
         result (lent first.old first.new) }
 {
     coded_parts::counting_code(ldpc::ldpc_count_errors(hard), first)
@@ -87,7 +87,7 @@ pub extern "C" fn desklink_ldpc_decode_soft_unguarded(
     first: &mut u16,
     work: &mut [f32],
 ) -> i32
-    ensures { DecodeCall (decoders·calls.ft8_soft llr.now limit plain.old work.old)
+    ensures { DecodeCall (decoders_calls.ft8_soft llr.now limit plain.old work.old)
         result (lent rounds.old rounds.new) (lent first.old first.new) plain.new work.new }
 {
     coded_parts::decoding_code(
@@ -101,17 +101,17 @@ pub extern "C" fn desklink_ldpc_decode_soft_unguarded(
 
 #[unsafe(no_mangle)]
 pub extern "C" fn desklink_encode(code: u32, message: &[u8], codeword: &mut [u8]) -> i32
-    ensures value { result ≡ coded_unit (judged (staircase·calls.encode_refusals code message.now codeword.old) tt) }
+    ensures value { result ≡ coded_unit (judged (staircase_calls.encode_refusals code message.now codeword.old) tt) }
     ensures codeword_after { codeword.new
-        ≡ kept (staircase·calls.encode_refusals code message.now codeword.old) codeword.old
-        (staircase·calls.encoded_by code message.now) }
+        ≡ kept (staircase_calls.encode_refusals code message.now codeword.old) codeword.old
+        (staircase_calls.encoded_by code message.now) }
 {
     coded::status_code(ldpc_codes::encode(code, message, codeword))
 }
 
 #[unsafe(no_mangle)]
 pub extern "C" fn desklink_syndrome_weight(code: u32, hard: &[u8], first: &mut u16) -> i32
-    ensures { Counts (judged (staircase·calls.weight_refusals code hard.now) (staircase·calls.syndrome_by code hard.now))
+    ensures { Counts (judged (staircase_calls.weight_refusals code hard.now) (staircase_calls.syndrome_by code hard.now))
         result (lent first.old first.new) }
 {
     coded_parts::counting_code(ldpc_codes::syndrome_weight(code, hard), first)
@@ -127,7 +127,7 @@ pub extern "C" fn desklink_decode_soft_unguarded(
     first: &mut u16,
     work: &mut [f32],
 ) -> i32
-    ensures { DecodeCall (decoders·calls.soft code limit llr.now bits.old work.old)
+    ensures { DecodeCall (decoders_calls.soft code limit llr.now bits.old work.old)
         result (lent rounds.old rounds.new) (lent first.old first.new) bits.new work.new }
 {
     coded_parts::decoding_code(
@@ -149,7 +149,7 @@ pub extern "C" fn desklink_decode_soft_with_unguarded(
     first: &mut u16,
     work: &mut [f32],
 ) -> i32
-    ensures { DecodeCall (decoders·calls.soft_with code rule scale limit llr.now bits.old work.old)
+    ensures { DecodeCall (decoders_calls.soft_with code rule scale limit llr.now bits.old work.old)
         result (lent rounds.old rounds.new) (lent first.old first.new) bits.new work.new }
 {
     coded_parts::decoding_code(
@@ -176,10 +176,10 @@ pub extern "C" fn desklink_decode_batch_unguarded(
     work: &mut [f32],
 ) -> i32
     ensures { BatchCall
-        (batch·calls.batch code rule limit scale values.now (pairs_of pairs.now)
-        (batch·calls.lent bits.old counts.old rounds.old firsts.old work.old))
+        (batch_calls.batch code rule limit scale values.now (pairs_of pairs.now)
+        (batch_calls.lent bits.old counts.old rounds.old firsts.old work.old))
         result
-        (batch·calls.lent bits.new counts.new rounds.new firsts.new work.new) }
+        (batch_calls.lent bits.new counts.new rounds.new firsts.new work.new) }
 {
     coded::status_code(batch::decode_batch(
         code, rule, limit, scale, values, pairs, bits, counts, rounds, firsts, work,
@@ -202,10 +202,10 @@ pub extern "C" fn desklink_decode_pairs_unguarded(
     work: &mut [f32],
 ) -> i32
     ensures { BatchCall
-        (batch·calls.batch code rule limit scale values.now (records·fields.pairs_of pairs.now)
-        (batch·calls.lent bits.old counts.old rounds.old firsts.old work.old))
+        (batch_calls.batch code rule limit scale values.now (records_fields.pairs_of pairs.now)
+        (batch_calls.lent bits.old counts.old rounds.old firsts.old work.old))
         result
-        (batch·calls.lent bits.new counts.new rounds.new firsts.new work.new) }
+        (batch_calls.lent bits.new counts.new rounds.new firsts.new work.new) }
 {
     coded::status_code(records::decode_pairs(
         code, rule, limit, scale, values, pairs, bits, counts, rounds, firsts, work,
@@ -228,10 +228,10 @@ pub extern "C" fn desklink_decode_stored_batch_unguarded(
     work: &mut [f32],
 ) -> i32
     ensures { BatchCall
-        (batch·calls.batch code (as_stored rule) limit scale values.now (pairs_of pairs.now)
-        (batch·calls.lent bits.old counts.old rounds.old firsts.old work.old))
+        (batch_calls.batch code (as_stored rule) limit scale values.now (pairs_of pairs.now)
+        (batch_calls.lent bits.old counts.old rounds.old firsts.old work.old))
         result
-        (batch·calls.lent bits.new counts.new rounds.new firsts.new work.new) }
+        (batch_calls.lent bits.new counts.new rounds.new firsts.new work.new) }
 {
     coded::status_code(batch::decode_stored_batch(
         code, rule, limit, scale, values, pairs, bits, counts, rounds, firsts, work,
@@ -257,11 +257,11 @@ pub extern "C" fn desklink_decode_groups_unguarded(
     work: &mut [f32],
 ) -> i32
     ensures { GroupsCall
-        (batch·calls.batch code rule limit scale values.now (pairs_of pairs.now)
-        (batch·calls.lent bits.old counts.old rounds.old firsts.old work.old))
+        (batch_calls.batch code rule limit scale values.now (pairs_of pairs.now)
+        (batch_calls.lent bits.old counts.old rounds.old firsts.old work.old))
         sizes.now
         result
-        (batch·calls.lent bits.new counts.new rounds.new firsts.new work.new) }
+        (batch_calls.lent bits.new counts.new rounds.new firsts.new work.new) }
 {
     coded::status_code(groups::decode_groups(
         code, rule, limit, scale, values, pairs, sizes, bits, counts, rounds, firsts, work,
@@ -300,7 +300,7 @@ pub extern "C" fn desklink_frame_reason_unguarded(
     computed: &mut u16,
     work: &mut [f32],
 ) -> i32
-    ensures { ReasonCall (reason·calls.asked code rule scale limit values.now word.old work.old)
+    ensures { ReasonCall (reason_calls.asked code rule scale limit values.now word.old work.old)
         result (lent part.old part.new) (lent computed.old computed.new) word.new work.new }
 {
     coded_parts::reason_code(
