@@ -119,6 +119,10 @@ sums (a ∷ ys) = sums_more a ys (zero_left a) (sums ys)
 less_zero : (own p n : Float) → NegativeZero own → (p ≡ n) ⊎ ((p ≡ zero32) × (n ≡ minus_zero32)) → p ⊖ own ≡ n ⊖ own
 unfolding sub add neg of_bits
 less_zero own p n g (inl e) = rw e
+less_zero nan p n g (inr z) = elim g [ ]
+less_zero (inf _) p n g (inr z) = elim g [ ]
+less_zero (fin false _ e) p n g (inr z) = elim g [ ]
+less_zero (fin true (suc _) e) p n g (inr z) = elim g [ ]
 less_zero (fin true zero e) p n minus (inr z) = rw (z.0, z.1) (zeros_add false false (pos 0) e ∙ sym (zeros_add true false (pos 0) e))
 
 pub zero_start : (llr own : Float) (answers : List Float) → Memᴰ own answers

@@ -3,12 +3,8 @@
 use mathlib.Core.Path.{refl}
 use lib.Ieee.{neg}
 use Rattle.softmath.specs.Functions.{atanh}
-use Rattle.softmath.proofs.fast_atanh.Statement.{statement}
-use Rattle.softmath.proofs.fast_atanh.Tie as tie
+use Rattle.softmath.proofs.fast_atanh.Goals as goal
 
-returns : tie.Need-returns
+pub returns : goal.returns
 unfolding atanh neg
 returns c = refl
-
-pub fast-atanh-spec : {M : Type 1} → statement M
-fast-atanh-spec = tie.close (tie.spec returns)
