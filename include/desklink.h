@@ -1,4 +1,4 @@
-/* desklink.h: the C interface of libdesklink.a (`rt staticlib desklink` writes it to target/staticlib).
+/* desklink.h: the C interface of libdesklink.a (`tools/build desklink` writes it to target/staticlib).
  *
  * Answers. Every call answers one int32_t: a value or a count from 0 up, or a refusal as minus its number, -1 to -18
  * or -20. A refused call has written nothing. A call that only writes answers 0.

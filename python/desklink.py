@@ -2,7 +2,7 @@
 
 Standard library only. It loads libdesklink.so, which one command makes, in the repository's root:
 
-    rt staticlib desklink && python/build
+    tools/build desklink && python/build
 
 It is looked for beside this file and in the repository's target/; DESKLINK_SO names it where it lies elsewhere. Values are read
 where they lie: any C-contiguous buffer of 32-bit floats is taken without a copy, an array.array('f') or a numpy float32 array

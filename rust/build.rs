@@ -16,7 +16,7 @@ fn link(root: &Path) {
     println!("cargo::rerun-if-changed={}", archive.display());
     if !archive.is_file() {
         println!(
-            "cargo::error=libdesklink.a is not in {}: run `rt staticlib desklink` in the repository's root, or set DESKLINK_LIB to its folder",
+            "cargo::error=libdesklink.a is not in {}: run `tools/build desklink` in the repository's root, or set DESKLINK_LIB to its folder",
             folder.display()
         );
     }

@@ -11,7 +11,7 @@ PROGRAMS = {"batchlist": "samples/code0.bin", "batchwhy": "samples/code0.bin"}
 
 
 def run(program, stdout=subprocess.PIPE, **stdin):
-    ended = subprocess.run([f"crates/{program}/out/{program}"], stdout=stdout, stderr=subprocess.PIPE, timeout=60, **stdin)
+    ended = subprocess.run([os.path.join("target/bin", program)], stdout=stdout, stderr=subprocess.PIPE, timeout=60, **stdin)
     return ended.stdout, ended.stderr.decode()
 
 
@@ -44,7 +44,7 @@ class Streams(unittest.TestCase):
             read, write = os.pipe()
             os.set_blocking(write, False)
             filled = fill(write)
-            process = subprocess.Popen([f"crates/{program}/out/{program}"], stdin=subprocess.PIPE, stdout=write, stderr=subprocess.PIPE)
+            process = subprocess.Popen([os.path.join("target/bin", program)], stdin=subprocess.PIPE, stdout=write, stderr=subprocess.PIPE)
             os.close(write)
             process.stdin.write(given(program))
             process.stdin.close()
