@@ -1,0 +1,16 @@
+-- `each_message::tanh_over` meets its contract. The invariant: what is passed, with the tanh of the rest, is the answer.
+-- Assumes nothing.
+use mathlib.Core.List.{◌++◌, map}
+use mathlib.Core.Path.{◌≡◌}
+use Prim.Native.Nat.{◌-◌, ◌≤◌}
+use lib.ListN.{length, take, drop}
+use Rattle.softmath.specs.Functions.{tanh}
+use Rattle.softmath.specs.Single.{◌⊘◌}
+use Rattle.each_message.proofs.tanh_over.Given as goal
+
+abbrev pub invariant-loop-i : goal.invariant-loop-i
+invariant-loop-i l = (l.i ≤ length l.part) × (length l.part ≡ length l.initial.part)
+    × (take l.i l.part ++ map (λ m. tanh (m ⊘ l.divisor)) (drop l.i l.part) ≡ map (λ m. tanh (m ⊘ l.divisor)) l.initial.part)
+
+abbrev pub decreases-loop-i : goal.decreases-loop-i
+decreases-loop-i l = length l.initial.part - l.i
