@@ -7,7 +7,7 @@ ghost use Rattle.picking.specs.Picks.{up_from, once_round, search, first_outside
 ghost use Rattle.picking.specs.Searches.{found_of, met_row, met_rows, Unbeaten, FoundBelow, load_at, choice_of};
 
 // What a search yields.
-#[derive(Drop)]
+#[derive(Clone, Copy)]
 pub enum Pick {
     Row(usize),
     Nothing,
@@ -98,7 +98,7 @@ fn relaxed_row(column: &[u16], m: usize, start: usize) -> usize
 }
 
 // A row that was picked, and 1 where the pick was relaxed, else 0.
-#[derive(Drop)]
+#[derive(Clone, Copy)]
 pub struct Taken {
     pub row: usize,
     pub relaxed: usize,
