@@ -13,7 +13,7 @@ use refusal::Status;
 
 // A pair: where a frame's values begin, and how many they are. It lies in memory as C lays out two numbers.
 #[repr(C)]
-#[derive(Drop)]
+#[derive(Clone, Copy)]
 pub struct Pair {
     pub offset: u32,
     pub length: u32,
