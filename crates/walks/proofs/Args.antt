@@ -22,7 +22,7 @@ use types.Logic.{Logic}
 use contract.Lifetimes.{Lfts, Shares}
 use denote.RattleType.{RattleType, Valss, Denots as Denotss}
 use denote.Laws.{Is, Tells, Spells, Tellss, Ises}
-use denote.Ref.{Bor, mut_vals, mut_Tells}
+use denote.Ref.{Bor, MutBor, mut_vals, mut_Tells}
 use denote.Slice.{shr_slice_vals, mut_slice_vals, mut_slice_Tells, shr_slice_Tells}
 use denote.Signature.{Slot, AllWithin, meet_at, plain, mut_ref_to, mut_slice_of, shr_slice_of, types_at}
 use denote.Triple.End.{all, Fins}
@@ -32,24 +32,24 @@ use denote.Exit.{Exit, unchanged, yes, Last, left}
 use Rattle.walks.proofs.Calls.{Hand, held, made}
 use Rattle.walks.proofs.Walk.{Haves}
 use Rattle.walks.proofs.Plain.{Plain, nat, Datum, size}
-use Rattle.walks.proofs.Lend.{Handle, at, pointer, counted, RefOwn, SliceOwn, SharedOwn}
+use Rattle.walks.proofs.Lend.{Handle, at, shared_at, pointer, counted, RefOwn, SliceOwn, SharedOwn}
 
 -- ---- a call's arguments
 pub data Arg : Type 3 where
-  -- a reference to x with the machine value v, and what it owns
+  -- the reference x with the machine value v, and what it owns
   reference : (h : Handle) (X : Type 0) → X → (v : Val) → WT v → Fml → Arg
   plainly : Datum → Arg
 
 module _ (R : RattleType) (h : Handle) where
   abbrev pub ref : R.Denot → Arg
-  ref x = reference h R.Denot x (pointer h) tt (RefOwn R h x)
+  ref x = reference h (MutBor R.Denot) (at h x) (pointer h) tt (RefOwn R h x)
 
   module _ (n : ℕ) (fits : n < 2 ^ 64) (ys : List R.Denot) where
     abbrev pub slice : Arg
-    slice = reference h (List R.Denot) ys (counted h n) (tt, (record { fits = fits }, tt)) (SliceOwn R h n ys)
+    slice = reference h (MutBor (List R.Denot)) (at h ys) (counted h n) (tt, (record { fits = fits }, tt)) (SliceOwn R h n ys)
 
     abbrev pub shared : Arg
-    shared = reference h (List R.Denot) ys (counted h n) (tt, (record { fits = fits }, tt)) (SharedOwn R h n ys)
+    shared = reference h (Bor (List R.Denot)) (shared_at h ys) (counted h n) (tt, (record { fits = fits }, tt)) (SharedOwn R h n ys)
 
 -- a usize
 abbrev pub number : (n : ℕ) → n < 2 ^ 64 → Arg
@@ -72,12 +72,12 @@ shares (plainly d ∷ us) = shares us
 
 abbrev Denots : List Arg → Type 0
 Denots [] = Unit {0}
-Denots (reference h X x v t P ∷ us) = Bor X × Denots us
+Denots (reference h X x v t P ∷ us) = X × Denots us
 Denots (plainly d ∷ us) = d.of.row.Denot × Denots us
 
 abbrev denots : (us : List Arg) → Denots us
 denots [] = tt
-denots (reference h X x v t P ∷ us) = (at h x, denots us)
+denots (reference h X x v t P ∷ us) = (x, denots us)
 denots (plainly d ∷ us) = (d.x, denots us)
 
 abbrev Vals : List Arg → Type 0
@@ -142,7 +142,7 @@ module _ {n : ℕ} (j : ℕ) (ok : AllWithin n (j ∷ [])) (R : RattleType) wher
   of_ref h law = record {
     slot = to_one;
     stay = h;
-    goes = law _;
+    goes = λ {M = M} {𝓤 = 𝓤} 𝓛. law M 𝓤 𝓛;
     hand = λ 𝓛 κs x w vs. held;
     spells = λ κs. mut_vals;
     tells = λ κs. mut_Tells (named j) (meet_at n (j ∷ []) ok κs) R;
@@ -158,7 +158,7 @@ module _ {n : ℕ} (j : ℕ) (ok : AllWithin n (j ∷ [])) (R : RattleType) wher
   of-slice h law = record {
     slot = to-many;
     stay = h;
-    goes = law _;
+    goes = λ {M = M} {𝓤 = 𝓤} 𝓛. law M 𝓤 𝓛;
     hand = λ 𝓛 κs x w vs. held;
     spells = λ κs. mut_slice_vals;
     tells = λ κs. mut_slice_Tells (named j) (meet_at n (j ∷ []) ok κs) R;

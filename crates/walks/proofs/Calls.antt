@@ -9,7 +9,7 @@
 use Prim.Native.Nat.{ℕ, zero, suc}
 use mathlib.Core.List.{List, [], ◌∷◌, ◌++◌}
 use seplogic.Ra.Ura.{Ura}
-use mir.Syntax.{Name, Place, Opd as Operand, Body, seq, call}
+use mir.Syntax.{Callee as Named, Place, Opd as Operand, Body, seq, call}
 use mir.Val.{Val}
 use base.Logic.{SProp, ent, sep, ex, emp, guard, id⊢, via, mono∗, mono_l, mono_r, comm∗, emp∗, snd∗}
 use base.Fml.{Fml, flft}
@@ -66,27 +66,27 @@ module _ {M : Type 1} {𝓤 : Ura M} (𝓛 : Logic 𝓤) where
 
   abbrev pub Hands : (Ts : List RattleType) → Denots Ts → Valss Ts → Type 1
   Hands [] a vss = Unit {1}
-  Hands (T ∷ Ts) a vss = Hand (T.own a.0 vss.0) × Hands Ts a.1 vss.1
+  Hands (T ∷ Ts) a vss = Hand (T.own_val a.0 vss.0) × Hands Ts a.1 vss.1
 
   abbrev pub holdings : (Ts : List RattleType) (a : Denots Ts) (vss : Valss Ts) → Hands Ts a vss → List (Item 𝓤)
   holdings [] a vss hs = []
-  holdings (T ∷ Ts) a vss hs = handed (T.own a.0 vss.0) hs.0 (holdings Ts a.1 vss.1 hs.1)
+  holdings (T ∷ Ts) a vss hs = handed (T.own_val a.0 vss.0) hs.0 (holdings Ts a.1 vss.1 hs.1)
 
   holdings-in : (Ts : List RattleType) (a : Denots Ts) (vss : Valss Ts) (hs : Hands Ts a vss)
       → ent 𝓤 (⋆ 𝓛 (holdings Ts a vss hs)) (sem 𝓛 (owns Ts a vss))
   holdings-in [] a vss hs = id⊢ 𝓤 (emp 𝓤)
-  holdings-in (T ∷ Ts) a vss hs = via 𝓤 _ (handed-in (T.own a.0 vss.0) hs.0 (holdings Ts a.1 vss.1 hs.1))
-      (mono_r 𝓤 (sem 𝓛 (T.own a.0 vss.0)) (holdings-in Ts a.1 vss.1 hs.1))
+  holdings-in (T ∷ Ts) a vss hs = via 𝓤 _ (handed-in (T.own_val a.0 vss.0) hs.0 (holdings Ts a.1 vss.1 hs.1))
+      (mono_r 𝓤 (sem 𝓛 (T.own_val a.0 vss.0)) (holdings-in Ts a.1 vss.1 hs.1))
 
   -- ---- what is given
   abbrev ending : {D : Type 0} (e : Exit D) (x : D) → Last e x → List (Item 𝓤) → List (Item 𝓤)
   ending unchanged x w Γ = Γ
-  ending (leaves L l S s) x w Γ = ‵ (l x w) ∷ Γ
+  ending (leaves L l S s r₀) x w Γ = ‵ (l x w) ∷ Γ
 
   ending-out : {D : Type 0} (e : Exit D) (x : D) (w : Last e x) (Γ : List (Item 𝓤))
       → ent 𝓤 (sep 𝓤 (sem 𝓛 (left e x w)) (⋆ 𝓛 Γ)) (⋆ 𝓛 (ending e x w Γ))
   ending-out unchanged x w Γ = snd∗ 𝓤 (emp 𝓤) (⋆ 𝓛 Γ)
-  ending-out (leaves L l S s) x w Γ = push 𝓛 (‵ (l x w)) Γ
+  ending-out (leaves L l S s r₀) x w Γ = push 𝓛 (‵ (l x w)) Γ
 
   abbrev pub endings : {n : ℕ} (κs : Lfts n) (ss : List (Slot n)) (ks : Kepts ss) (a : Denots (types_at ss κs)) → Fins κs ss ks a → List (Item 𝓤)
   endings κs [] ks a ws = []
@@ -145,7 +145,7 @@ module _ {M : Type 1} {𝓤 : Ura M} (𝓛 : Logic 𝓤) where
       gives : (Said : Res T.signature x.0 → Lasts T x.0 x.3 → Type 0) → Shows Said → (v : Val)
           → ent 𝓤 (Callee.post (x, g) v) (mean 𝓛 (Gives Said v))
       gives Said said v =
-          qed 𝓛 (later (some (λ (r : Res T.signature x.0). (raw (toks 𝓛 T.signature.lifetimes x.0 x.1) ⊛ ‵ (R.own r (v ∷ [])))
+          qed 𝓛 (later (some (λ (r : Res T.signature x.0). (raw (toks 𝓛 T.signature.lifetimes x.0 x.1) ⊛ ‵ (R.own_val r (v ∷ [])))
           ⊛ some (λ (ws : Lasts T x.0 x.3). ‵ (lasts T x.0 x.3 ws) ⊛ raw ((c x.0 x.3).ensures g r (at_exit T x.0 x.3 ws))))) ∷ []) ∵
           updating ! $ await ! tt $ pick ! (λ r. split ! $ move ! (1 ∷ []) $
           pick ! (λ ws. split ! $ move ! (1 ∷ []) $ use1 𝓛 (raw (fact 𝓤 (Said r ws))) (said r ws) $ heard ! (Said r ws) (λ e.
@@ -159,7 +159,7 @@ module _ {M : Type 1} {𝓤 : Ura M} (𝓛 : Logic 𝓤) where
 
 -- `!` stands after what the call is about, so that antt has read that before it compares the call with the goal
 pub calls : {M : Type 1} {𝓤 : Ura M} (𝓛 : Logic 𝓤) {K : Type 0}
-    {Γ : List (Item 𝓤)} {E : Env 𝓤 𝓛.H} {C : Calls 𝓤 𝓛.H} {f : Name} {xs : List Operand} {Λ : Loops 𝓤 𝓛.H} {q : Post 𝓤 𝓛.H} {d : Place} {rest : Body}
+    {Γ : List (Item 𝓤)} {E : Env 𝓤 𝓛.H} {C : Calls 𝓤 𝓛.H} {f : Named} {xs : List Operand} {Λ : Loops 𝓤 𝓛.H} {q : Post 𝓤 𝓛.H} {d : Place} {rest : Body}
     → FmC 𝓤 𝓛.H 𝓛.laws C → (T : Ended) (c : Clauses 𝓤 T) → Triple 𝓤 (C f) (Callee 𝓛 T c)
     → (x : Bound 𝓛 T.signature) (g : (c x.0 x.3).ghost) (hs : Hands 𝓛 (types_at T.signature.params x.0) x.3 x.4)
     → ent 𝓤 (emp 𝓤) ((c x.0 x.3).requires g)

@@ -111,8 +111,8 @@ module _ (P : Plain) (h : Handle) (ys : List P.row.Denot) (j : ℕ) (d : P.row.D
       (ap (vptr h.block) (sym (place_is (mem R).size h.offset j))) (passed (ap (λ x. x.11) e))
       (fitting (vptr h.block at) (ap (λ x. x.2) e) (tt, tt)) $
       -- a copy of what the slice owns is opened
-      move k (1 ∷ []) $ shared-copied k tt R h (length ys) ys $ move k (1 ∷ []) $ fsplit k $ drop k $ fsplit k $ drop k $ move k (0 ∷ 2 ∷ []) $
-      looks_slice k tt R (Is R) (shows 𝓛 R) vals P.tells (P.copies 𝓛) ys h.block h.offset (λ q'.
+      move k (1 ∷ []) $ shared-copied k tt R h (length ys) ys P.laws $ move k (1 ∷ []) $ fsplit k $ drop k $ move k (0 ∷ 2 ∷ []) $
+      looks_slice k tt R (P.copied 𝓛) ys h.block h.offset (λ q'.
       elem_out k R (Is R) (shows 𝓛 R) vals P.tells q' ys j d h.block h.offset inside (λ g.
       rewrite k 0 (λ (τs : List Ty). ‵ (cell_at q' τs (vals y) h.block at)) P.alone refl $
       -- held: the element's cell, what it owns, the other elements, the open borrow, the borrow, the other copy, and the locals

@@ -18,7 +18,7 @@ use Prim.Native.Nat.{ℕ, zero, suc, ◌<◌, ◌^◌}
 use lib.Dec.{T, ltb}
 use lib.ListN.{get_or, set}
 use seplogic.Ra.Ura.{Ura}
-use seplogic.Ra.TreeShare.{full_share}
+use base.Fraction.{full_share}
 use mir.Syntax.{Ty, Lifetime, Mutability, w64, ty_ref, ty_enum, ttnil, place, deref, field, copy, int, Opd as Operand, addr_of, aggregate, Rv as RValue}
 use mir.Syntax.{Body, skip, seq, assign, cond, rv_opd, return, Home, Local, local}
 use mir.Val.{Val, vunit, vbool, vint, vptr, has_ty, WT}

@@ -18,7 +18,7 @@ use mathlib.Core.Option.{Option, none, some}
 use Prim.Native.Nat.{ℕ, ◌<◌, ◌^◌}
 use lib.ListN.{length}
 use seplogic.Ra.Ura.{Ura}
-use mir.Syntax.{Name, Place, Opd as Operand, Body, seq, call}
+use mir.Syntax.{Callee as Named, Place, Opd as Operand, Body, seq, call}
 use mir.Val.{Val, WT}
 use base.Logic.{ent, sep, emp, id⊢, via, mono_r, comm∗, snd∗}
 use base.Fml.{GName, Fml, fsep}
@@ -28,7 +28,9 @@ use types.Kit.{Item, ‵, raw, ◌⊛◌, mean, ⋆, push, pop, ++⊢, ⊢++, Po
 use types.Kit.{◌$◌, ◌∵◌, !, qed, move, use0, use1, use2, split, join, drop, fsplit, fjoin, done}
 use types.Run.{Opds}
 use sound.WpLaws.{FmC}
-use denote.RattleType.{RattleType}
+use denote.RattleType.{RattleType, RowLaws}
+use denote.Shares.{Shares}
+use denote.Ref.{Bor, MutBor}
 use denote.Signature.{types_at}
 use denote.Triple.Bound.{Bound, passed}
 use denote.Triple.Clauses.{Clauses, Ended, Lasts}
@@ -37,7 +39,7 @@ use denote.Triple.Statement.{Triple}
 use Rattle.walks.proofs.Plain.{Datum, size}
 use Rattle.walks.proofs.Args.{Arg, reference, plainly}
 use Rattle.walks.proofs.Calls.{Callee, Hands, Before, After, Shows, Learned, calls}
-use Rattle.walks.proofs.Lend.{Handle, lent, pointer, counted, token, RefOwn, SliceOwn, SharedOwn, RefKept, SliceKept, SharedKept}
+use Rattle.walks.proofs.Lend.{Handle, at, shared_at, lent, pointer, counted, token, RefOwn, SliceOwn, SharedOwn, RefKept, SliceKept, SharedKept}
 use Rattle.walks.proofs.Lend.{RefLast, SliceLast, ref-lent, ref_back, slice-lent, slice_back, slice-shared, shared_back, shared-copied}
 
 -- what is said of a last value: nothing, or a formula
@@ -47,9 +49,9 @@ said (some P) Γ = ‵ P ∷ Γ
 
 pub record Lending : Type 3 where
   pub handle : Handle
-  -- what it points at, its machine value, and what it owns
+  -- the reference, by a handle, its machine value, and what it owns
   pub X : Type 0
-  pub x : X
+  pub x : Handle → X
   pub value : Val
   pub well : WT value
   pub own : Fml
@@ -58,17 +60,17 @@ pub record Lending : Type 3 where
   -- what is lent and what is kept, for the lifetime α under the name δ
   pub to : ℕ → GName → Handle
   pub owns : ℕ → GName → Fml
-  pub keeps : ℕ → GName → Fml
+  pub keeps : {M : Type 1} {𝓤 : Ura M} → Logic 𝓤 → ℕ → GName → Item 𝓤
   -- the last value: what is said of it, what is known of it, and what is owned then
   pub Last : Type 0
   pub ends : GName → Last → Option Fml
   pub Known : Last → Type 0
   pub own_at : Last → Fml
   pub lends : {M : Type 1} {𝓤 : Ura M} {𝓛 : Logic 𝓤} {K : Type 0} {Γ : List (Item 𝓤)} {G : Goal 𝓤 𝓛.H} → K → Soaks G
-      → ((α : ℕ) (δ : GName) → Seq K 𝓛 (‵ (token (to α δ)) ∷ ‵ (owns α δ) ∷ ‵ (keeps α δ) ∷ Γ) G) → Seq K 𝓛 (‵ (fsep own (token handle)) ∷ Γ) G
+      → ((α : ℕ) (δ : GName) → Seq K 𝓛 (‵ (token (to α δ)) ∷ ‵ (owns α δ) ∷ keeps 𝓛 α δ ∷ Γ) G) → Seq K 𝓛 (‵ (fsep own (token handle)) ∷ Γ) G
   pub back : {M : Type 1} {𝓤 : Ura M} {𝓛 : Logic 𝓤} {K : Type 0} {Γ : List (Item 𝓤)} {G : Goal 𝓤 𝓛.H} → K → Soaks G
       → (α : ℕ) (δ : GName) (w : Last) → (Known w → Seq K 𝓛 (‵ (fsep (own_at w) (token handle)) ∷ Γ) G)
-      → Seq K 𝓛 (‵ (token (to α δ)) ∷ ‵ (keeps α δ) ∷ said (ends δ w) Γ) G
+      → Seq K 𝓛 (‵ (token (to α δ)) ∷ keeps 𝓛 α δ ∷ said (ends δ w) Γ) G
 
 pub data Loan : Type 3 where
   loan : Lending → Loan
@@ -82,15 +84,15 @@ module _ (R : RattleType) (h : Handle) where
   abbrev pub lend : R.Denot → Loan
   lend x = loan (record {
     handle = h;
-    X = R.Denot;
-    x = x;
+    X = MutBor R.Denot;
+    x = λ h'. at h' x;
     value = pointer h;
     well = tt;
     own = RefOwn R h x;
     stays = true;
     to = lent h;
     owns = λ α δ. RefOwn R (lent h α δ) x;
-    keeps = λ α δ. RefKept R h α δ x;
+    keeps = λ 𝓛 α δ. ‵ (RefKept R h α δ x);
     Last = R.Denot;
     ends = λ δ y. some (RefLast R h δ y);
     Known = λ y. Unit {0};
@@ -103,15 +105,15 @@ module _ (R : RattleType) (h : Handle) where
     abbrev pub lend-slice : Loan
     lend-slice = loan (record {
       handle = h;
-      X = List R.Denot;
-      x = ys;
+      X = MutBor (List R.Denot);
+      x = λ h'. at h' ys;
       value = counted h n;
       well = (tt, (record { fits = fits }, tt));
       own = SliceOwn R h n ys;
       stays = true;
       to = lent h;
       owns = λ α δ. SliceOwn R (lent h α δ) n ys;
-      keeps = λ α δ. SliceKept R h α δ n ys;
+      keeps = λ 𝓛 α δ. SliceKept R h 𝓛 α δ n ys;
       Last = List R.Denot;
       ends = λ δ zs. some (SliceLast R h δ ys zs);
       Known = λ zs. length zs ≡ length ys;
@@ -120,43 +122,43 @@ module _ (R : RattleType) (h : Handle) where
       back = λ t z α δ zs k. move t (0 ∷ 2 ∷ 1 ∷ []) $ slice_back t z R h n ys α δ zs k;
     })
 
-    abbrev pub share-slice : Loan
-    share-slice = loan (record {
+    abbrev pub share-slice : RowLaws R → ((M : Type 1) (𝓤 : Ura M) (𝓛 : Logic 𝓤) (α : ℕ) → Shares 𝓛 R (α ∷ [])) → Loan
+    share-slice laws shares = loan (record {
       handle = h;
-      X = List R.Denot;
-      x = ys;
+      X = MutBor (List R.Denot);
+      x = λ h'. at h' ys;
       value = counted h n;
       well = (tt, (record { fits = fits }, tt));
       own = SliceOwn R h n ys;
       stays = true;
       to = lent h;
       owns = λ α δ. SharedOwn R (lent h α δ) n ys;
-      keeps = λ α δ. SharedKept R h α n ys;
+      keeps = λ 𝓛 α δ. SharedKept R h 𝓛 α n ys;
       Last = Unit {0};
       ends = λ δ w. none;
       Known = λ w. Unit {0};
       own_at = λ w. SliceOwn R h n ys;
-      lends = λ t z k. slice-shared t z R h n ys k;
+      lends = λ {M = M} {𝓤 = 𝓤} {𝓛 = 𝓛} t z k. slice-shared t z R h n ys laws (shares M 𝓤 𝓛) k;
       back = λ t z α δ w k. shared_back t z R h n ys α δ $ k tt;
     })
 
-    abbrev pub pass-slice : Loan
-    pass-slice = loan (record {
+    abbrev pub pass-slice : RowLaws R → Loan
+    pass-slice laws = loan (record {
       handle = h;
-      X = List R.Denot;
-      x = ys;
+      X = Bor (List R.Denot);
+      x = λ h'. shared_at h' ys;
       value = counted h n;
       well = (tt, (record { fits = fits }, tt));
       own = SharedOwn R h n ys;
       stays = false;
       to = λ α δ. h;
       owns = λ α δ. SharedOwn R h n ys;
-      keeps = λ α δ. SharedOwn R h n ys;
+      keeps = λ 𝓛 α δ. ‵ (SharedOwn R h n ys);
       Last = Unit {0};
       ends = λ δ w. none;
       Known = λ w. Unit {0};
       own_at = λ w. SharedOwn R h n ys;
-      lends = λ t z k. shared-copied t z R h n ys $ move t (2 ∷ []) $ k 0 h.name;
+      lends = λ t z k. shared-copied t z R h n ys laws $ move t (2 ∷ []) $ k 0 h.name;
       back = λ t z α δ w k. move t (1 ∷ 0 ∷ []) $ fjoin t $ k tt;
     })
 
@@ -176,7 +178,7 @@ Names (hand d ∷ ls) = Names ls
 abbrev pub lent_args : (ls : List Loan) → Names ls → List Arg
 lent_args [] ν = []
 lent_args (loan l ∷ ls) ν =
-    reference (l.to ν.0.0 ν.0.1) l.X l.x l.value l.well (l.owns ν.0.0 ν.0.1) ∷ lent_args ls ν.1
+    reference (l.to ν.0.0 ν.0.1) l.X (l.x (l.to ν.0.0 ν.0.1)) l.value l.well (l.owns ν.0.0 ν.0.1) ∷ lent_args ls ν.1
 lent_args (hand d ∷ ls) ν = plainly d ∷ lent_args ls ν
 
 abbrev pub LastValues : List Loan → Type 0
@@ -211,15 +213,16 @@ module _ {M : Type 1} (𝓤 : Ura M) where
   owned (loan l ∷ ls) ν = ‵ (l.owns ν.0.0 ν.0.1) ∷ owned ls ν.1
   owned (hand d ∷ ls) ν = owned ls ν
 
-  abbrev kept : (ls : List Loan) → Names ls → List (Item 𝓤)
-  kept [] ν = []
-  kept (loan l ∷ ls) ν = ‵ (l.keeps ν.0.0 ν.0.1) ∷ kept ls ν.1
-  kept (hand d ∷ ls) ν = kept ls ν
-
   abbrev ended : (ls : List Loan) → Names ls → LastValues ls → List (Item 𝓤)
   ended [] ν ws = []
   ended (loan l ∷ ls) ν ws = said (l.ends ν.0.1 ws.0) (ended ls ν.1 ws.1)
   ended (hand d ∷ ls) ν ws = ended ls ν ws.1
+
+module _ {M : Type 1} {𝓤 : Ura M} (𝓛 : Logic 𝓤) where
+  abbrev kept : (ls : List Loan) → Names ls → List (Item 𝓤)
+  kept [] ν = []
+  kept (loan l ∷ ls) ν = l.keeps 𝓛 ν.0.0 ν.0.1 ∷ kept ls ν.1
+  kept (hand d ∷ ls) ν = kept ls ν
 
 -- some entries as one
 abbrev all_of : {M : Type 1} {𝓤 : Ura M} (𝓛 : Logic 𝓤) → List (Item 𝓤) → Item 𝓤
@@ -247,12 +250,12 @@ module _ {M : Type 1} {𝓤 : Ura M} {𝓛 : Logic 𝓤} {K : Type 0} {G : Goal 
     together i Δ = use2 𝓛 (all_of 𝓛 (i ∷ Δ)) (push 𝓛 i Δ)
 
   lends-all : K → Soaks G → (Γ : List (Item 𝓤)) (ls : List Loan)
-      → ((ν : Names ls) → Seq K 𝓛 (all_of 𝓛 (tokens-of 𝓤 ls ν) ∷ all_of 𝓛 (owned 𝓤 ls ν) ∷ all_of 𝓛 (kept 𝓤 ls ν) ∷ Γ) G)
+      → ((ν : Names ls) → Seq K 𝓛 (all_of 𝓛 (tokens-of 𝓤 ls ν) ∷ all_of 𝓛 (owned 𝓤 ls ν) ∷ all_of 𝓛 (kept 𝓛 ls ν) ∷ Γ) G)
       → Seq K 𝓛 (all_of 𝓛 (held 𝓤 ls) ∷ Γ) G
   lends-all t z Γ [] k = use0 𝓛 (all_of 𝓛 []) (id⊢ 𝓤 (emp 𝓤)) $ use0 𝓛 (all_of 𝓛 []) (id⊢ 𝓤 (emp 𝓤)) $ k tt
   lends-all t z Γ (loan l ∷ ls) k = apart t (‵ (holds l)) (held 𝓤 ls) $ l.lends t z (λ α δ. move t (3 ∷ []) $
-      lends-all t z (‵ (token (l.to α δ)) ∷ ‵ (l.owns α δ) ∷ ‵ (l.keeps α δ) ∷ Γ) ls (λ ν.
-      move t (5 ∷ 2 ∷ []) $ together t (‵ (l.keeps α δ)) (kept 𝓤 ls ν) $ move t (4 ∷ 2 ∷ []) $ together t (‵ (l.owns α δ)) (owned 𝓤 ls ν) $
+      lends-all t z (‵ (token (l.to α δ)) ∷ ‵ (l.owns α δ) ∷ l.keeps 𝓛 α δ ∷ Γ) ls (λ ν.
+      move t (5 ∷ 2 ∷ []) $ together t (l.keeps 𝓛 α δ) (kept 𝓛 ls ν) $ move t (4 ∷ 2 ∷ []) $ together t (‵ (l.owns α δ)) (owned 𝓤 ls ν) $
       move t (3 ∷ 2 ∷ []) $ together t (‵ (token (l.to α δ))) (tokens-of 𝓤 ls ν) $ k ((α, δ), ν)))
   lends-all t z Γ (hand d ∷ ls) k = lends-all t z Γ ls k
 
@@ -264,11 +267,11 @@ module _ {M : Type 1} {𝓤 : Ura M} {𝓛 : Logic 𝓤} {K : Type 0} {G : Goal 
 
   back-all : K → Soaks G → (Γ : List (Item 𝓤)) (ls : List Loan) (ν : Names ls) (ws : LastValues ls)
       → (Knowns ls ws → Seq K 𝓛 (all_of 𝓛 (held_at 𝓤 ls ws) ∷ Γ) G)
-      → Seq K 𝓛 (all_of 𝓛 (tokens-of 𝓤 ls ν) ∷ all_of 𝓛 (ended 𝓤 ls ν ws) ∷ all_of 𝓛 (kept 𝓤 ls ν) ∷ Γ) G
+      → Seq K 𝓛 (all_of 𝓛 (tokens-of 𝓤 ls ν) ∷ all_of 𝓛 (ended 𝓤 ls ν ws) ∷ all_of 𝓛 (kept 𝓛 ls ν) ∷ Γ) G
   back-all t z Γ [] ν ws k = drop t $ drop t $ k tt
   back-all t z Γ (loan l ∷ ls) ν ws k =
       apart t (‵ (token (l.to ν.0.0 ν.0.1))) (tokens-of 𝓤 ls ν.1) $ move t (3 ∷ []) $
-      apart t (‵ (l.keeps ν.0.0 ν.0.1)) (kept 𝓤 ls ν.1) $ move t (2 ∷ 0 ∷ 4 ∷ []) $
+      apart t (l.keeps 𝓛 ν.0.0 ν.0.1) (kept 𝓛 ls ν.1) $ move t (2 ∷ 0 ∷ 4 ∷ []) $
       unsaid t _ _ _ (l.ends ν.0.1 ws.0) (ended 𝓤 ls ν.1 ws.1) (l.back t z ν.0.0 ν.0.1 ws.0 (λ known. move t (3 ∷ 1 ∷ 2 ∷ []) $
       back-all t z (‵ (holds_at l ws.0) ∷ Γ) ls ν.1 ws.1 (λ knowns. move t (1 ∷ 0 ∷ []) $
       together t (‵ (holds_at l ws.0)) (held_at 𝓤 ls ws.1) $ k (known, knowns))))
@@ -295,12 +298,12 @@ module _ {M : Type 1} {𝓤 : Ura M} {𝓛 : Logic 𝓤} {T : Ended} {c : Clause
 
 -- i is what stands first, the caller's locals: it stays there, and the operands are read with it
 pub calls_lent : {M : Type 1} {𝓤 : Ura M} (𝓛 : Logic 𝓤) {K : Type 0} {i : Item 𝓤}
-    {Γ : List (Item 𝓤)} {E : Env 𝓤 𝓛.H} {C : Calls 𝓤 𝓛.H} {f : Name} {os : List Operand} {Λ : Loops 𝓤 𝓛.H} {q : Post 𝓤 𝓛.H} {d : Place} {rest : Body}
+    {Γ : List (Item 𝓤)} {E : Env 𝓤 𝓛.H} {C : Calls 𝓤 𝓛.H} {f : Named} {os : List Operand} {Λ : Loops 𝓤 𝓛.H} {q : Post 𝓤 𝓛.H} {d : Place} {rest : Body}
     → FmC 𝓤 𝓛.H 𝓛.laws C → (T : Ended) (c : Clauses 𝓤 T) → Triple 𝓤 (C f) (Callee 𝓛 T c) → (ls : List Loan) (θ : Takes 𝓛 T c ls)
     → ((ν : Names ls) → ent 𝓤 (emp 𝓤) ((c (θ.at ν).0 (θ.at ν).3).requires (θ.ghost ν)))
     → (Said : (ν : Names ls) → Res T.signature (θ.at ν).0 → Lasts T (θ.at ν).0 (θ.at ν).3 → Type 0)
     → ((ν : Names ls) → Shows 𝓛 T c (θ.at ν) (θ.ghost ν) (Said ν))
-    → K → ((ν : Names ls) → Opds K 𝓛 (raw ((Callee 𝓛 T c).pre (θ.at ν, θ.ghost ν)) ∷ i ∷ all_of 𝓛 (kept 𝓤 ls ν) ∷ Γ) E os
+    → K → ((ν : Names ls) → Opds K 𝓛 (raw ((Callee 𝓛 T c).pre (θ.at ν, θ.ghost ν)) ∷ i ∷ all_of 𝓛 (kept 𝓛 ls ν) ∷ Γ) E os
     (passed 𝓛 T.signature (θ.at ν)))
     → ((ν : Names ls) (v : Val) (r : Res T.signature (θ.at ν).0) (ws : Lasts T (θ.at ν).0 (θ.at ν).3)
     → Learned 𝓛 T c (θ.at ν) (θ.ghost ν) (Said ν) v r ws → Knowns ls (θ.lasts ν ws)
@@ -309,11 +312,11 @@ pub calls_lent : {M : Type 1} {𝓤 : Ura M} (𝓛 : Logic 𝓤) {K : Type 0} {i
 calls_lent {M} {𝓤} 𝓛 {K} {i} {Γ} fm T c known ls θ ok Said shows t os k =
     cut (i ∷ held 𝓤 ls) (all_of 𝓛 (held 𝓤 ls) ∷ i ∷ []) Γ (behind 𝓛 i (held 𝓤 ls)) $ lends-all t tt (i ∷ Γ) ls (λ ν. move t (0 ∷ 1 ∷ 3 ∷ []) $
     cut (all_of 𝓛 (tokens-of 𝓤 ls ν) ∷ all_of 𝓛 (owned 𝓤 ls ν) ∷ []) (Before 𝓛 T c (θ.at ν) (θ.ghost ν) (θ.asked ν))
-    (i ∷ all_of 𝓛 (kept 𝓤 ls ν) ∷ Γ)
+    (i ∷ all_of 𝓛 (kept 𝓛 ls ν) ∷ Γ)
     (appended 𝓛 (tokens-of 𝓤 ls ν) (owned 𝓤 ls ν) (θ.before ν)) $
     calls 𝓛 fm T c known (θ.at ν) (θ.ghost ν) (θ.asked ν) (ok ν) (Said ν) (shows ν) t (os ν) (λ v r ws e.
     cut (After 𝓛 T c (θ.at ν) (θ.ghost ν) ws) (all_of 𝓛 (tokens-of 𝓤 ls ν) ∷ all_of 𝓛 (ended 𝓤 ls ν (θ.lasts ν ws)) ∷ [])
-    (i ∷ all_of 𝓛 (kept 𝓤 ls ν) ∷ Γ)
+    (i ∷ all_of 𝓛 (kept 𝓛 ls ν) ∷ Γ)
     (parted 𝓛 (tokens-of 𝓤 ls ν) (ended 𝓤 ls ν (θ.lasts ν ws)) (θ.after ν ws)) $ move t (0 ∷ 1 ∷ 3 ∷ []) $
     back-all t tt (i ∷ Γ) ls ν (θ.lasts ν ws) (λ knowns.
     cut (all_of 𝓛 (held_at 𝓤 ls (θ.lasts ν ws)) ∷ i ∷ []) (i ∷ held_at 𝓤 ls (θ.lasts ν ws)) Γ (in-front 𝓛 i (held_at 𝓤 ls (θ.lasts ν ws))) $
@@ -323,7 +326,7 @@ calls_lent {M} {𝓤} 𝓛 {K} {i} {Γ} fm T c known ls θ ok Said shows t os k 
 -- a function's own parameters
 abbrev pub own_args : List Loan → List Arg
 own_args [] = []
-own_args (loan l ∷ ls) = reference l.handle l.X l.x l.value l.well l.own ∷ own_args ls
+own_args (loan l ∷ ls) = reference l.handle l.X (l.x l.handle) l.value l.well l.own ∷ own_args ls
 own_args (hand d ∷ ls) = plainly d ∷ own_args ls
 
 -- P is had if it stays

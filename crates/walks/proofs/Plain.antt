@@ -14,27 +14,15 @@ use seplogic.Ra.Ura.{Ura}
 use mir.Syntax.{Ty, Width, w64, ty_int, ty_float, ty_unit}
 use mir.Val.{Val, vunit, vint, vfloat, has_ty, WT, of_z}
 use types.Logic.{Logic}
-use denote.RattleType.{RattleType}
+use borrow.Table.Copies.{parts_laws, variants_laws}
+use denote.Copied.{Copied, uint_Copied, sint_Copied, float_Copied, Nothing-Copied}
+use denote.RattleType.{RattleType, RowLaws}
 use denote.Exit.{yes, unchanged}
 use denote.Laws.{Is, Tells, Makes, Copy}
 use denote.Memory.{lone}
-use denote.Plain.{
-  UInt,
-  Boolean,
-  Nothing,
-  uint_Tells,
-  uint_Lawful,
-  uint_Makes,
-  uint_copy,
-  bool_Tells,
-  bool_Makes,
-  bool-copy,
-  Nothing-Tells,
-  Nothing-Makes,
-  Nothing-copy,
-}
-use denote.Signed.{SInt, sint_Tells, sint_Lawful, sint_Makes, sint_copy}
-use denote.Floats.{FloatOf, float_Tells, float_Lawful, float_Makes, float_copy}
+use denote.Plain.{UInt, Nothing, uint_Tells, uint_Lawful, uint_Makes, uint_copy, Nothing-Tells, Nothing-Makes, Nothing-copy, uint_row_laws, unit-row_laws}
+use denote.Signed.{SInt, sint_Tells, sint_Lawful, sint_Makes, sint_copy, sint_row_laws}
+use denote.Floats.{FloatOf, float_Tells, float_Lawful, float_Makes, float_copy, float_row_laws}
 use denote.Steps.{only}
 use denote.Struct.Declared as S
 use denote.Struct.Laws as SL
@@ -53,6 +41,8 @@ pub record Plain : Type 3 where
   pub still : row.exit yes ≡ unchanged
   pub alone : row.mir ≡ mir ∷ []
   pub copies : {M : Type 1} {𝓤 : Ura M} (𝓛 : Logic 𝓤) → Copy 𝓛 row
+  pub copied : {M : Type 1} {𝓤 : Ura M} (𝓛 : Logic 𝓤) → Copied 𝓛 row
+  pub laws : RowLaws row
 
 abbrev pub nat : Width → Plain
 nat w = record {
@@ -65,6 +55,8 @@ nat w = record {
   still = refl;
   alone = refl;
   copies = λ 𝓛. uint_copy 𝓛 w;
+  copied = λ 𝓛. uint_Copied 𝓛 w;
+  laws = uint_row_laws w;
 }
 
 abbrev pub int : Width → Plain
@@ -78,6 +70,8 @@ int w = record {
   still = refl;
   alone = refl;
   copies = λ 𝓛. sint_copy 𝓛 w;
+  copied = λ 𝓛. sint_Copied 𝓛 w;
+  laws = sint_row_laws w;
 }
 
 abbrev pub real : Format → Plain
@@ -91,6 +85,8 @@ real f = record {
   still = refl;
   alone = refl;
   copies = λ 𝓛. float_copy 𝓛 f;
+  copied = λ 𝓛. float_Copied 𝓛 f;
+  laws = float_row_laws f;
 }
 
 abbrev pub nothing : Plain
@@ -104,6 +100,8 @@ nothing = record {
   still = refl;
   alone = refl;
   copies = λ 𝓛. Nothing-copy 𝓛;
+  copied = λ 𝓛. Nothing-Copied 𝓛;
+  laws = unit-row_laws;
 }
 
 abbrev pub struct : (D : S.Declared) (L : SL.Laws D) → SS.Plains (S.fields D) → SL.Copyables D.parts → Plain
@@ -117,6 +115,8 @@ struct D L pl cs = record {
   still = SL.still D cs yes;
   alone = refl;
   copies = λ 𝓛. SL.copy D cs 𝓛;
+  copied = λ 𝓛. SL.copied D cs 𝓛;
+  laws = parts_laws D (SL.copy_row_laws D.parts cs);
 }
 
 abbrev pub enum : (D : E.Declared) (L : EL.Laws D) → EE.Few (E.shape D) → EE.Plainss (E.variants D) → EL.Copyabless D.parts → Plain
@@ -130,6 +130,8 @@ enum D L few pl cs = record {
   still = EL.still D cs yes;
   alone = refl;
   copies = λ 𝓛. EL.copy D cs 𝓛;
+  copied = λ 𝓛. EL.copied D cs 𝓛;
+  laws = variants_laws D (EL.copy_row_lawss D.parts cs);
 }
 
 pub record Datum : Type 3 where

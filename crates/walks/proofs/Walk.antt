@@ -34,12 +34,12 @@ module _ {M : Type 1} {𝓤 : Ura M} (𝓛 : Logic 𝓤) where
   -- what the parameters own at entry
   abbrev entries : (Ts : List RattleType) → Denots Ts → Valss Ts → List (Item 𝓤)
   entries [] a vss = []
-  entries (T ∷ Ts) a vss = ‵ (T.own a.0 vss.0) ∷ entries Ts a.1 vss.1
+  entries (T ∷ Ts) a vss = ‵ (T.own_val a.0 vss.0) ∷ entries Ts a.1 vss.1
 
   entries_out : (Ts : List RattleType) (a : Denots Ts) (vss : Valss Ts) → ent 𝓤 (sem 𝓛 (owns Ts a vss)) (⋆ 𝓛 (entries Ts a vss))
   entries_out [] a vss = id⊢ 𝓤 (emp 𝓤)
-  entries_out (T ∷ Ts) a vss = via 𝓤 _ (mono_r 𝓤 (sem 𝓛 (T.own a.0 vss.0)) (entries_out Ts a.1 vss.1))
-      (push 𝓛 (‵ (T.own a.0 vss.0)) (entries Ts a.1 vss.1))
+  entries_out (T ∷ Ts) a vss = via 𝓤 _ (mono_r 𝓤 (sem 𝓛 (T.own_val a.0 vss.0)) (entries_out Ts a.1 vss.1))
+      (push 𝓛 (‵ (T.own_val a.0 vss.0)) (entries Ts a.1 vss.1))
 
   -- what is had of the parameters at exit
   abbrev pub Haves : {n : ℕ} (κs : Lfts n) (ss : List (Slot n)) (ks : Kepts ss) (hs : Stays ss ks) (a : Denots (types_at ss κs)) → Fins κs ss ks a
