@@ -1,7 +1,7 @@
 -- The tables agree: the test is computed once, and what it says of each entry and each edge is read off it. Assumes nothing.
 use mathlib.Core.Path.{◌≡◌, refl, sym, ap, ap₂, ◌∙◌}
 use mathlib.Core.Bool.{Bool, true, false, cond, ◌&&◌, beq}
-use mathlib.Core.List.{List, [], ◌∷◌, ◌++◌, map, map_append}
+use mathlib.Core.List.{List, [], ◌∷◌, ◌++◌, map, map-append}
 use mathlib.Mathlib.Data.Bool.Basic.{and_elim_left, and_elim_right}
 use Prim.Native.Nat.{ℕ, zero, suc, pred, ◌+◌, ◌<◌, ◌≤◌}
 use native.Mathlib.Nat.{add-zero, add-suc, suc-add, zero-add}
@@ -87,7 +87,7 @@ edges_listed p c a [] = refl
 edges_listed p c a (r ∷ rs) =
     let f = check_of_edge c a (r ∷ rs) in
     let next = a + length r in
-    rw (places_append p a r (joined rs), map_append)
+    rw (places_append p a r (joined rs), map-append)
     (ap₂ ◌++◌ (row_edges p c a r f (λ e l u. simp (lt-ltb e next u)))
     (same_from p next (joined rs) f (check_of_edge (suc c) next rs) (λ e u. simp (le-ltb e next u)) ∙ edges_listed p (suc c) next rs))
 

@@ -1,6 +1,7 @@
 -- That `NM`, `NUM_ROWS` and `MN` agree: the test over the whole tables, and what it says of each entry and each edge. (Document 01: "That `NM`,
 -- `NUM_ROWS` and `MN` agree, each edge in both, is tested once over all 522 edges, and the test's rule is proved from it.")
-use Rattle.std.specs.Prelude.{◌≡◌, Bool, true, false, cond, ◌&&◌, List, [], ◌∷◌, ◌++◌, map, ℕ, zero, suc, pred, ◌+◌, ◌*◌, ◌<◌, ◌≤◌, eqb, ltb, length, get_or, replicate}
+use Rattle.std.specs.Prelude.{◌≡◌, Bool, true, false, cond, ◌&&◌, ℕ, zero, suc, pred, ◌+◌, ◌*◌, ◌<◌, ◌≤◌, eqb, ltb}
+use Rattle.std.specs.Prelude.{List, [], ◌∷◌, ◌++◌, map, length, get_or, replicate}
 use Rattle.std.specs.Bool.{beq}
 use Rattle.tanner.specs.Checks.{Checks}
 use Rattle.tanner.specs.Flat.{joined, places}
