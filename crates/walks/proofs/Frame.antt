@@ -429,7 +429,8 @@ module _ {M : Type 1} {𝓤 : Ura M} (𝓛 : Logic 𝓤) where
       → ent 𝓤 (sem 𝓛 (fsep (fat full_share (type_of E i) (block_of E i) zero v) (cells E cs))) (sem 𝓛 (cells E (set cs i (full v))))
   unfolding cells cell
   lent-in [] E i v z = absurd z
-  lent-in (c ∷ cs) [] i v z = qed 𝓛 (‵ (fsep (fat full_share (type_of [] i) (block_of [] i) zero v) ffalse) ∷ []) ∵ fsplit ! $ keep ! (1 ∷ []) $ by ! (never_e 𝓤 _)
+  lent-in (c ∷ cs) [] i v z = qed 𝓛 (‵ (fsep (fat full_share (type_of [] i) (block_of [] i) zero v) ffalse) ∷ []) ∵ fsplit ! $
+      keep ! (1 ∷ []) $ by ! (never_e 𝓤 _)
   lent-in (empty ∷ cs) (p ∷ E) zero v z = absurd z
   lent-in (full w ∷ cs) (p ∷ E) zero v z = absurd z
   lent-in (away ∷ cs) (p ∷ E) zero v z =
@@ -464,7 +465,8 @@ laid ρ ρ₁ ρ₂ x m = (slice_ty ρ, (ρ₁, (slice_ty ρ₂, (full (slice_va
 module _ {M : Type 1} {𝓤 : Ura M} {𝓛 : Logic 𝓤} {K : Type 0} {E : List Spot} {cs : List Cell}
     (i : ℕ) {b o m : ℕ} {ℓ : Lifetime} {μ : Mutability} {σ : Ty}
     (is : type_of E i ≡ slice_ty (ty_ref ℓ μ σ)) (e : get_or cs i away ≡ full (slice_val (b, o) m)) where
-  pub slice-part : K → Part K 𝓛 (‵ (frame E cs)) full_share (slice_ty (ty_ref ℓ μ σ)) (block_of E i) zero (slice_val (b, o) m) (λ u. ‵ (frame E (set cs i (full u))))
+  pub slice-part : K
+      → Part K 𝓛 (‵ (frame E cs)) full_share (slice_ty (ty_ref ℓ μ σ)) (block_of E i) zero (slice_val (b, o) m) (λ u. ‵ (frame E (set cs i (full u))))
   slice-part t = subst (λ (τ : Ty). Part K 𝓛 (‵ (frame E cs)) full_share τ (block_of E i) zero (slice_val (b, o) m) (λ u. ‵ (frame E (set cs i (full u))))) is
       (cell-of t i e)
 

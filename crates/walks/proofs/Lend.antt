@@ -132,9 +132,11 @@ module _ {M : Type 1} {𝓤 : Ura M} {𝓛 : Logic 𝓤} {K : Type 0} {Γ : List
     pub slice_back : (α : ℕ) (δ : GName) (zs : List R.Denot) → (length zs ≡ length ys → Seq K 𝓛 (‵ (Slice R h n zs) ∷ Γ) G)
         → Seq K 𝓛 (‵ (token (lent h α δ)) ∷ ‵ (SliceLast R h δ ys zs) ∷ SliceKept R h 𝓛 α δ n ys ∷ Γ) G
     slice_back α δ zs k = lft_end t z $ move t (1 ∷ []) $ fsplit t $ move t (1 ∷ []) $ drop t $ move t (2 ∷ []) $ split t $
-        feq_l t (λ e. move t (2 ∷ 0 ∷ 1 ∷ []) $ use3 𝓛 (later (given (length zs ≡ length ys) (‵ ((O.MutSlice erased h.life R).own_val (at h zs)) ⊛ ‵ (token h))))
+        feq_l t (λ e. move t (2 ∷ 0 ∷ 1 ∷ []) $
+        use3 𝓛 (later (given (length zs ≡ length ys) (‵ ((O.MutSlice erased h.life R).own_val (at h zs)) ⊛ ‵ (token h))))
         (sl_relent_backˡ 𝓛 R h.life h.share (α ∷ []) h.block h.offset h.name δ ys zs) $ await t z $ learn t (λ same. split t $ fsplit t $
-        feq_i t (List Val) (counted h n ∷ []) (mut_slice_vals (at h zs)) (e ∙ ap (λ (m : ℕ). counted h m ∷ []) (sym same)) $ fjoin t $ fjoin t $ fjoin t $ k same))
+        feq_i t (List Val) (counted h n ∷ []) (mut_slice_vals (at h zs)) (e ∙ ap (λ (m : ℕ). counted h m ∷ []) (sym same)) $
+        fjoin t $ fjoin t $ fjoin t $ k same))
 
     -- the elements are shared out for the time of the call, which their type's laws allow
     pub slice-shared : RowLaws R → ((α : ℕ) → Shares 𝓛 R (α ∷ []))
@@ -158,4 +160,5 @@ module _ {M : Type 1} {𝓤 : Ura M} {𝓛 : Logic 𝓤} {K : Type 0} {Γ : List
     -- a `&[T]` is held twice
     pub shared-copied : RowLaws R → Step K 𝓛 (‵ (SharedOwn R h n ys) ∷ ‵ (SharedOwn R h n ys) ∷ ‵ (token h) ∷ Γ) G (‵ (Shared R h n ys) ∷ Γ) G
     shared-copied laws = step (λ s. fsplit t $
-        use1 𝓛 (‵ (SharedOwn R h n ys) ⊛ ‵ (SharedOwn R h n ys)) ((shr_slice_copy 𝓛 erased h.life R laws).twice (shared_at h ys) (counted h n ∷ [])) $ split t $ s)
+        use1 𝓛 (‵ (SharedOwn R h n ys) ⊛ ‵ (SharedOwn R h n ys))
+        ((shr_slice_copy 𝓛 erased h.life R laws).twice (shared_at h ys) (counted h n ∷ [])) $ split t $ s)
