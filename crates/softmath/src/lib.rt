@@ -7,7 +7,7 @@ ghost use Rattle.softmath.specs.Functions.{tanh, atanh, clamp_unit, magnitude_of
 ghost use Rattle.softmath.specs.CheckNode.{turned, factor_of};
 
 // How a check answers: the three rules of the staircase codes, and (174,91)'s own.
-#[derive(Drop)]
+#[derive(Clone, Copy)]
 pub enum DecodeRule {
     SumProduct,
     MinSum,
@@ -16,7 +16,7 @@ pub enum DecodeRule {
 }
 
 // How a variable node makes its new messages: the total less the own answer, or the sum of the others.
-#[derive(Drop)]
+#[derive(Clone, Copy)]
 pub enum SumKind {
     Total,
     Others,
