@@ -12,7 +12,7 @@ ghost use Rattle.slot_minima.specs.Minima.{fresh, noted, noted_all, answer_to, F
 use softmath::DecodeRule;
 
 // What is kept of the messages seen: their two least magnitudes, and the sign of their product.
-#[derive(Drop)]
+#[derive(Clone, Copy)]
 pub struct Seen {
     pub least: f32,
     pub second: f32,
