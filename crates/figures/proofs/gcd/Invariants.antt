@@ -1,0 +1,10 @@
+-- `figures::gcd` meets its contract. The invariant: what is left of the pair has the greatest common divisor of a and b.
+use mathlib.Core.Path.{◌≡◌}
+use Rattle.figures.specs.Fraction.{gcd}
+use Rattle.figures.proofs.gcd.Given as goal
+
+abbrev pub invariant-loop-y : goal.invariant-loop-y
+invariant-loop-y l = gcd l.x l.y ≡ gcd l.a l.b
+
+abbrev pub decreases-loop-y : goal.decreases-loop-y
+decreases-loop-y l = l.y
