@@ -10,7 +10,7 @@ use tanner::FirstCheck;
 
 // The first reason that applies: the lowest position of a NaN; the lowest unsatisfied check; for code 3 the checksum that the bits carry and the one
 // computed of them, where they differ; otherwise the frame is clean.
-#[derive(Drop)]
+#[derive(Clone, Copy)]
 pub enum Reason {
     Nan(u16),
     Check(u16),
@@ -19,7 +19,7 @@ pub enum Reason {
 }
 
 // The lowest position of a NaN, unless there is none.
-#[derive(Drop)]
+#[derive(Clone, Copy)]
 pub enum FirstNan {
     At(u16),
     Absent,

@@ -4,7 +4,7 @@
 ghost use Rattle.std.specs.Prelude.{◌≡◌};
 ghost use Rattle.refusal.specs.Numbers.{number_of};
 
-#[derive(Drop)]
+#[derive(Clone, Copy)]
 pub enum Refusal {
     UnknownCode,
     UnknownRule,
@@ -29,14 +29,14 @@ pub enum Refusal {
 }
 
 // The answer of a call that only writes: it is done, or turned down.
-#[derive(Drop)]
+#[derive(Clone, Copy)]
 pub enum Status {
     Done,
     Refused(Refusal),
 }
 
 // The answer of a call that gives a number, or is turned down.
-#[derive(Drop)]
+#[derive(Clone, Copy)]
 pub enum Answer {
     Value(u16),
     Refused(Refusal),
