@@ -2,7 +2,7 @@
 -- By induction over the entries that are left, each with what was passed carried along. Assumes nothing.
 use mathlib.Core.Path.{◌≡◌, refl, sym, ap, ◌∙◌}
 use mathlib.Core.Bool.{false, true}
-use mathlib.Core.List.{List, [], ◌∷◌, ◌++◌, map, map_append}
+use mathlib.Core.List.{List, [], ◌∷◌, ◌++◌, map, map-append}
 use Prim.Native.Nat.{ℕ, zero, suc}
 use lib.Dec.{T}
 use lib.ListN.{length, take, length-map}
@@ -88,7 +88,7 @@ take-map h (suc n) (x ∷ xs) = ap (λ (zs : List Float). h x ∷ zs) (take-map 
 -- the products of the tanhs, where the pad's is 1.0
 tanhs_pad : (h : Float → Float) (pad : Float) → h pad ≡ one32 → (ms : List Float)
     → take (length ms) (at_each product (map h (ms ++ (pad ∷ [])))) ≡ at_each product (map h ms)
-tanhs_pad h pad e ms = rw (map_append h ms (pad ∷ []), e, ← length-map ms h) (products_pad (map h ms))
+tanhs_pad h pad e ms = rw (map-append h ms (pad ∷ []), e, ← length-map ms h) (products_pad (map h ms))
 
 -- what the checks take together, after each message by itself
 pub middle_pad : (rule : DecodeRule) (ms : List Float)
