@@ -2,37 +2,25 @@
 #![tactic(auto)]
 
 use cycles::Listed;
-use libc::STDOUT_FILENO;
-
-fn wider(n: u32) -> u64 {
-    n as u64
-}
+use std::io;
+use std::io::Print;
 
 // The line of one code.
-fn print_line(code: u32, cycles: u32, relaxed: u16) {
-    io::print_decimal(STDOUT_FILENO, code as u64);
-    io::write_all(STDOUT_FILENO, b" ");
-    io::print_decimal(STDOUT_FILENO, wider(cycles));
-    io::write_all(STDOUT_FILENO, b" ");
-    io::print_decimal(STDOUT_FILENO, wider(relaxed as u32));
-    io::write_all(STDOUT_FILENO, b"\n");
+fn print_line(rt: &impl Print, code: u32, cycles: u32, relaxed: u16) -> io::Result<()> {
+    println!(rt; "{code} {cycles} {relaxed}")
 }
 
 // There is room for 64 cycles, and no code has more.
-fn print_code(code: u32) {
+fn print_code(rt: &impl Print, code: u32) -> io::Result<()> {
     let mut out = [0u16; 256];
     match cycles::list_cycles(code, &mut out) {
-        Listed::Found(n, k) => {
-            print_line(code, n, k);
-        }
-        Listed::Refused(_) => {
-            io::write_all(STDOUT_FILENO, b"refused\n");
-        }
+        Listed::Found(n, k) => print_line(rt, code, n, k),
+        Listed::Refused(_) => println!(rt; "refused"),
     }
 }
 
-fn main() {
-    print_code(0);
-    print_code(1);
-    print_code(2);
+fn main(rt: HostRuntime) -> io::Result<()> {
+    print_code(&rt, 0)?;
+    print_code(&rt, 1)?;
+    print_code(&rt, 2)
 }

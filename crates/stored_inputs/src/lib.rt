@@ -1,10 +1,11 @@
-// Stored inputs on standard input, one after the other: each is its length, a little-endian u32, and its bytes.
+// Stored inputs, one after the other: each is its length, a little-endian u32, and its bytes.
 #![tactic(auto)]
 
-ghost use Rattle.std.specs.Prelude.{◌<◌, length};
+ghost use Rattle.std.specs.Prelude.{◌<◌, length, IfOk};
 ghost use Rattle.stored_inputs.specs.Stored.{Held};
 
-use libc::STDIN_FILENO;
+use std::io;
+use std::io::Read;
 
 // How many inputs a replay reads at most.
 pub const MOST: usize = 4096;
@@ -27,16 +28,17 @@ fn length_of(head: &[u8; 4]) -> usize {
 }
 
 // Reads the next input, where the buffer has room for it.
-pub fn read_next(input: &mut [u8]) -> Stored
-    ensures { Held result (length input.new) }
+pub fn read_next<R: Read>(reader: &mut R, input: &mut [u8]) -> io::Result<Stored>
+    ensures { IfOk result (λ stored. Held stored (length input.new)) }
 {
     let mut head = [0u8; 4];
-    if io::read_full(STDIN_FILENO, &mut head) < 4 {
-        return Stored::End;
+    if streams::read_all(reader, &mut head)? < 4 {
+        return Ok(Stored::End);
     }
     let n = length_of(&head);
     if n > input.len() {
-        return Stored::End;
+        return Ok(Stored::End);
     }
-    Stored::Bytes(io::read_full(STDIN_FILENO, &mut input[..n]))
+    let got = streams::read_all(reader, &mut input[..n])?;
+    Ok(Stored::Bytes(got))
 }

@@ -1,98 +1,81 @@
 // An input read whole and a text written whole. A read that fails is told from the end, a call is made again where that helps, and what cannot be done is
-// said on standard error: a program has no exit status to say it by.
+// said on standard error.
 #![tactic(auto)]
 
-ghost use Rattle.std.specs.Prelude.{◌-◌, ◌≤◌, length};
+ghost use Rattle.std.specs.Prelude.{◌≤◌, ◌<◌, length, take, IfOk, OnOk};
+ghost use Rattle.std.specs.Io.KnownBytes.{Appends, Consumes, IsAtEnd};
 
-use libc::STDOUT_FILENO;
+use std::io::{Eprint, ErrorKind, Print, Read, Write};
+use std::{io, thread};
 
 // How often a call that a signal interrupted, or that would have to wait, is made again: about a second.
 const TRIES: usize = 1000000;
 
-// What was read: so many bytes, or that a read failed.
-#[derive(Drop)]
-pub struct Got {
-    pub readable: bool,
-    pub bytes: usize,
-}
-
 // Whether the call that has just failed may do better later: a signal came between, or the other end of a pipe that does not wait is not ready.
-fn passing() -> bool {
-    let error = os::errno();
-    if error == libc::EINTR {
+fn passing(error: &io::Error) -> bool {
+    if error.kind() == ErrorKind::Interrupted {
         return true;
     }
-    error == libc::EAGAIN
+    error.kind() == ErrorKind::WouldBlock
 }
 
-// How often more to try after a call that moved so many bytes: as before where it moved some, once less where it may do better, and else no more.
-fn tries_left(more: usize, left: usize) -> usize
-    ensures { result ≤ left - (1 - more) }
+// How often more to try after a call that failed: once less where it may do better, and else no more, with the error.
+fn tries_left(error: io::Error, left: usize) -> io::Result<usize>
+    ensures { IfOk result (λ n. n < left) }
 {
-    if more > 0 {
-        return left;
-    }
     if left == 0 {
-        return 0;
+        return Err(error);
     }
-    if passing() {
-        libc::sched_yield();
-        return left - 1;
+    if passing(&error) {
+        thread::yield_now();
+        return Ok(left - 1);
     }
-    0
+    Err(error)
 }
 
-// Reads to the end of the input, or until the room is full.
-pub fn read_all(fd: i32, input: &mut [u8]) -> Got
-    ensures { result.bytes ≤ length input.new }
+// Reads to the end of the input, or until the room is full, and answers how many bytes were read.
+pub fn read_all<R: Read>(reader: &mut R, input: &mut [u8]) -> io::Result<usize>
+    ensures bound { IfOk result (λ n. n ≤ length input.new) }
+    ensures bytes { IfOk result (λ n. Consumes (R.remaining reader.old) (R.remaining reader.new) (take n input.new)) }
+    ensures whole { IfOk result (λ n. n < length input.new → IsAtEnd (R.remaining reader.new)) }
 {
     let mut n = 0;
     let mut tries = TRIES;
     while n < input.len() {
-        let got = libc::read(fd, &mut input[n..]);
-        if got == 0 {
-            break;
+        match reader.read(&mut input[n..]) {
+            Ok(0) => return Ok(n),
+            Ok(more) => n += more,
+            Err(error) => tries = tries_left(error, tries)?,
         }
-        let more = io::count(got, &input[n..]);
-        tries = tries_left(more, tries);
-        if tries == 0 {
-            return Got {
-                readable: false,
-                bytes: 0,
-            };
-        }
-        n += more;
     }
-    Got {
-        readable: true,
-        bytes: n,
-    }
+    Ok(n)
 }
 
-// Writes the whole text, or answers that it cannot; some of it may have been written then.
-pub fn write_text(fd: i32, text: &[u8]) -> bool {
+// Writes the whole text, or answers why it cannot; some of it may have been written then.
+pub fn write_text<W: Write>(writer: &mut W, text: &[u8]) -> io::Result<()>
+    ensures { OnOk result (Appends (W.contents writer.old) (W.contents writer.new) text.now) }
+{
     let mut done = 0;
     let mut tries = TRIES;
     while done < text.len() {
-        let put = libc::write(fd, &text[done..]);
-        let more = io::count(put, &text[done..]);
-        tries = tries_left(more, tries);
-        if tries == 0 {
-            return false;
+        match writer.write(&text[done..]) {
+            Ok(0) => return Err(io::Error::from(ErrorKind::WriteZero)),
+            Ok(more) => done += more,
+            Err(error) => tries = tries_left(error, tries)?,
         }
-        done += more;
     }
-    true
+    Ok(())
 }
 
 // Says on standard error that standard input could not be read, and why.
-pub fn unread() {
-    os::fail(b"standard input");
+pub fn unread(rt: &impl Eprint, error: io::Error) -> io::Result<()> {
+    eprintln!(rt; "standard input: {error}")
 }
 
 // Writes the whole text to standard output, or says on standard error that it could not, and why.
-pub fn print(text: &[u8]) {
-    if !write_text(STDOUT_FILENO, text) {
-        os::fail(b"standard output: not all was written");
+pub fn print<R: Print + Eprint>(rt: &R, text: &[u8]) -> io::Result<()> {
+    match write_text(&mut io::writer(rt), text) {
+        Ok(()) => Ok(()),
+        Err(error) => eprintln!(rt; "standard output: not all was written: {error}"),
     }
 }

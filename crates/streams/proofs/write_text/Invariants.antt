@@ -1,0 +1,12 @@
+-- What was written is the text so far. Each turn that goes on writes a byte or is one try more.
+use Rattle.std.proofs.Common.{length, ◌-◌, ◌≤◌, take, ◌+◌}
+use Rattle.std.specs.Io.KnownBytes.{Appends}
+use Rattle.streams.proofs.write_text.Given as goal
+
+abbrev pub invariant-loop-done : goal.invariant-loop-done
+invariant-loop-done g l =
+    (l.done ≤ length l.text)
+    × Appends (g.W.Write.contents l.initial.writer) (g.W.Write.contents l.writer) (take l.done l.text)
+
+abbrev pub decreases-loop-done : goal.decreases-loop-done
+decreases-loop-done g l = length l.text - l.done + l.tries
