@@ -65,23 +65,23 @@ module _ (sizes : List ℕ) (frames i left : ℕ) (rest : wrong sizes frames ≡
   begins : i < length sizes → wrong sizes frames ≡ wrong (n ∷ drop (suc i) sizes) left
   begins h = rest ∙ ap (λ (l : List ℕ). wrong l left) (drop-cons sizes i 0 h)
 
-  pub refused-zero : i < length sizes → n ≡ 0 → verdict (size_refusals frames sizes) ≡ refused 20
-  refused-zero h e = judged_wrong sizes frames true (omega arith) (begins h ∙ wrong_zero (drop (suc i) sizes) left n e)
+  pub refused_zero : i < length sizes → n ≡ 0 → verdict (size_refusals frames sizes) ≡ refused 20
+  refused_zero h e = judged_wrong sizes frames true (omega arith) (begins h ∙ wrong_zero (drop (suc i) sizes) left n e)
 
-  pub refused-past : i < length sizes → left < n → verdict (size_refusals frames sizes) ≡ refused 20
-  refused-past h e = judged_wrong sizes frames true (omega arith) (begins h ∙ wrong_past (drop (suc i) sizes) left n e)
+  pub refused_past : i < length sizes → left < n → verdict (size_refusals frames sizes) ≡ refused 20
+  refused_past h e = judged_wrong sizes frames true (omega arith) (begins h ∙ wrong_past (drop (suc i) sizes) left n e)
 
-  pub rest-next : i < length sizes → (n ≡ 0 → ⊥) → n ≤ left → wrong sizes frames ≡ wrong (drop (i + 1) sizes) (left - n)
-  rest-next h z e = rw add-one (begins h ∙ wrong_next (drop (suc i) sizes) left n z e)
+  pub rest_next : i < length sizes → (n ≡ 0 → ⊥) → n ≤ left → wrong sizes frames ≡ wrong (drop (i + 1) sizes) (left - n)
+  rest_next h z e = rw add-one (begins h ∙ wrong_next (drop (suc i) sizes) left n z e)
 
   ended : length sizes ≤ i → wrong sizes frames ≡ wrong [] left
   ended h = rest ∙ ap (λ (l : List ℕ). wrong l left) (drop_of_length-le sizes {i = i} h)
 
-  pub refused-left : 0 < length sizes → length sizes ≤ i → 0 < left → verdict (size_refusals frames sizes) ≡ refused 20
-  refused-left s h e = judged_wrong sizes frames true s (ended h ∙ wrong_left left e)
+  pub refused_left : 0 < length sizes → length sizes ≤ i → 0 < left → verdict (size_refusals frames sizes) ≡ refused 20
+  refused_left s h e = judged_wrong sizes frames true s (ended h ∙ wrong_left left e)
 
-  pub all-taken : 0 < length sizes → length sizes ≤ i → left ≤ 0 → verdict (size_refusals frames sizes) ≡ nothing
-  all-taken s h e = judged_wrong sizes frames false s (ended h ∙ right-none left e)
+  pub all_taken : 0 < length sizes → length sizes ≤ i → left ≤ 0 → verdict (size_refusals frames sizes) ≡ nothing
+  all_taken s h e = judged_wrong sizes frames false s (ended h ∙ right-none left e)
 
 -- ---- sizes that are accepted
 

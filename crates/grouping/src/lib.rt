@@ -11,6 +11,7 @@ use refusal::{Refusal, Status};
 // ---- sizes
 
 // Whether the sizes are of groups that take so many frames: each is compared with the frames that are left, so that no sum can wrap.
+#[tactic(auto, using(crate::proofs::Sizes::refused_zero))]
 pub fn sizes_fault(frames: usize, sizes: &[u32]) -> Status
     ensures { status_of result ≡ judged (size_refusals frames sizes.now) tt }
 {
