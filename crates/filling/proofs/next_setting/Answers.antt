@@ -1,0 +1,39 @@
+-- `filling::next_setting` meets its contract. The invariant: the lowest check of the rest is the lowest of all. Assumes nothing.
+use mathlib.Core.Path.{ap}
+use Prim.Native.Nat.{◌+◌}
+use native.Mathlib.Omega.{arith}
+use lib.ListN.{get_or}
+use Rattle.tanner.specs.Flat.{Within}
+use Rattle.lists.proofs.Below.{below-part}
+use Rattle.filling.specs.Calls.{next_of}
+use Rattle.filling.proofs.Steps.{lowest-found, lowest-more, lowest-done}
+use borrow.Author.Rules.{rules}
+use Rattle.filling.proofs.next_setting.Goals as goal
+
+-- the bounds of the check's positions
+pub slice_bounds-next_in-start : goal.slice_bounds-next_in-start
+unfolding Within
+slice_bounds-next_in-start c = omega (arith, c.requires.within c.loop-c.c c.loop-c-test.true)
+
+pub slice_bounds-next_in-end : goal.slice_bounds-next_in-end
+unfolding Within
+slice_bounds-next_in-end c = omega (arith, c.requires.within c.loop-c.c c.loop-c-test.true)
+
+pub slice_bounds-next_in-count : goal.slice_bounds-next_in-count
+unfolding Within
+slice_bounds-next_in-count c = omega (arith, c.requires.within c.loop-c.c c.loop-c-test.true)
+
+pub next_in-requires : goal.next_in-requires
+next_in-requires c =
+    let s = c.args.starts.now in
+    below-part _ _ (get_or s c.loop-c.c 0) (get_or s (c.loop-c.c + 1) 0) c.requires.low
+
+pub returns-in-At : goal.returns-in-At
+returns-in-At c = lowest-found _ _ _ _ c.loop-c.invariant.1 _ _ c.loop-c-test.true c.next_in.ensures (ap next_of c.in-At.is)
+
+pub loop-c-preserved : goal.loop-c-preserved
+loop-c-preserved c =
+    (search rules, lowest-more _ _ _ _ c.loop-c.invariant.1 c.loop-c-test.true c.next_in.ensures (ap next_of c.in_default.is))
+
+pub returns : goal.returns
+returns c = lowest-done _ _ _ _ c.loop-c.invariant.1 c.loop-c-test.false
