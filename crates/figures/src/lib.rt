@@ -9,7 +9,7 @@ ghost use Rattle.figures.specs.Totals.{summed_of, figure_of, passed, join_refusa
 use refusal::Refusal;
 
 // What is kept of some frames.
-#[derive(Drop)]
+#[derive(Clone, Copy)]
 pub struct Totals {
     pub frames: u32,
     pub clean: u64,
@@ -18,14 +18,14 @@ pub struct Totals {
 }
 
 // The answer of a sum: new totals, or a refusal, after which the old ones stand.
-#[derive(Drop)]
+#[derive(Clone, Copy)]
 pub enum Summed {
     Is(Totals),
     Refused(Refusal),
 }
 
 // The answer of a figure: a numerator and a denominator, or a refusal.
-#[derive(Drop)]
+#[derive(Clone, Copy)]
 pub enum Figure {
     Fraction(u64, u64),
     Refused(Refusal),
