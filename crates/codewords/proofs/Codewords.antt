@@ -89,7 +89,8 @@ module _ (w : Word) where
   parities-even zero i g e = none
   parities-even (suc n) i g e =
       let row = bits (take 12 g) in
-      let first : get_or w (91 + i) 0 ≡ under (take 91 row) (take 91 w) = sym (rw add-zero at (get_or-drop (91 + i) w 0 0)) ∙ ap (λ (l : List ℕ). get_or l 0 0) e in
+      let first : get_or w (91 + i) 0 ≡ under (take 91 row) (take 91 w) =
+      sym (rw add-zero at (get_or-drop (91 + i) w 0 0)) ∙ ap (λ (l : List ℕ). get_or l 0 0) e in
       let next : 91 + suc i ≡ 91 + i + 1 = omega arith in
       let rest : drop (91 + suc i) w ≡ parities n (drop 12 g) = ap (λ (k : ℕ). drop k w) next ∙ sym (drop-drop 1 (91 + i) w) ∙ ap (drop 1) e in
       more (own_row i row ∙ omega (arith, first)) (parities-even n (suc i) (drop 12 g) rest)

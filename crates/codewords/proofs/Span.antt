@@ -87,10 +87,10 @@ unfolding added_if
 added_if_even zero r s w e f = f
 added_if_even (suc d) r s w e f = under-added r s w ∙ omega arith
 
-sum_even : (n : ℕ) {rs : List Row} (w : Word) → AllEven w rs → under (sum_at n rs) w ≡ 0
+sum_even : (w : Word) (n : ℕ) {rs : List Row} → AllEven w rs → under (sum_at n rs) w ≡ 0
 unfolding under sum_at
-sum_even n w none = refl
-sum_even n w (more {r = r} {rs = rs} e es) = added_if_even (n % 2) r (sum_at (n / 2) rs) w e (sum_even (n / 2) w es)
+sum_even w n none = refl
+sum_even w n (more {r = r} {rs = rs} e es) = added_if_even (n % 2) r (sum_at (n / 2) rs) w e (sum_even w (n / 2) es)
 
 -- ---- the test: with each row goes a number, and the row is the sum of the others at that number's digits
 unfoldable pub empty : Row → Bool
@@ -119,5 +119,5 @@ sums_even (n ∷ ns) [] others w t es = none
 sums_even (n ∷ ns) (r ∷ rs) others w t es =
     let here = empty (added r (sum_at n others)) in
     let zero-sum : under (added r (sum_at n others)) w ≡ 0 = under_empty (added r (sum_at n others)) w (and_elim_left here (sums ns rs others) t) in
-    more {r = r} (omega (arith, zero-sum, under-added r (sum_at n others) w, sum_even n w es, under_bit r w))
+    more {r = r} (omega (arith, zero-sum, under-added r (sum_at n others) w, sum_even w n es, under_bit r w))
     (sums_even ns rs others w (and_elim_right here (sums ns rs others) t) es)
