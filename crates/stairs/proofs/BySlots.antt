@@ -2,7 +2,7 @@
 -- row i, next to last, and in row i + 1, last. By induction over the rows. Assumes nothing.
 use mathlib.Core.Path.{◌≡◌, refl, sym, ap, ◌∙◌}
 use mathlib.Core.Bool.{Bool, true, false, cond}
-use mathlib.Core.List.{List, [], ◌∷◌, ◌++◌, map, map_append}
+use mathlib.Core.List.{List, [], ◌∷◌, ◌++◌, map, map-append}
 use Prim.Native.Nat.{ℕ, zero, suc, ◌+◌, ◌-◌, ◌*◌, ◌<◌, ◌≤◌}
 use native.Mathlib.Nat.{add-zero, add-suc, zero-add, suc-mul}
 use native.Mathlib.Omega.{arith}
@@ -72,7 +72,7 @@ module _ (m p : ℕ) where
   row_edges r rs c =
       let n : 0 + length r ≡ length r + 0 = omega arith in
       ap (map (slot_from m c (r ∷ rs))) (places_append p 0 r (joined rs) ∙ ap (λ (i : ℕ). places p 0 r ++ places p i (joined rs)) n)
-      ∙ map_append (slot_from m c (r ∷ rs)) (places p 0 r) (places p (length r + 0) (joined rs))
+      ∙ map-append (slot_from m c (r ∷ rs)) (places p 0 r) (places p (length r + 0) (joined rs))
       ∙ rw (edges-here r rs c 0 r (omega arith), edges_later r rs c 0 (joined rs))
 
 -- ---- the rows

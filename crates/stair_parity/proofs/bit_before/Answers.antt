@@ -5,9 +5,7 @@ use native.Mathlib.Omega.{arith}
 use mathlib.Core.List.{List}
 use lib.ListN.{get_or}
 use Rattle.stairs.specs.Stairs.{bit_before}
-use borrow.Author.Rules.{rules}
-use Rattle.stair_parity.proofs.bit_before.Statement.{statement}
-use Rattle.stair_parity.proofs.bit_before.Tie as tie
+use Rattle.stair_parity.proofs.bit_before.Goals as goal
 
 -- the byte before parity bit i, where there is one
 behind : (k i : ℕ) (bytes : List ℕ) → (i ≡ 0 → ⊥) → get_or bytes (k + i - 1) 0 ≡ bit_before k i bytes
@@ -17,22 +15,15 @@ behind k (suc i) bytes h =
     let e : k + suc i - 1 ≡ k + i = omega arith in
     ap (λ (p : ℕ). get_or bytes p 0) e
 
-returns : tie.Need-returns
+pub returns-then-i-eq0 : goal.returns-then-i-eq0
 unfolding bit_before
-returns c = rw c.if1.true refl
+returns-then-i-eq0 c = rw c.if-i-eq0.true refl
 
-add-result : tie.Need-overflow-add-result
-add-result c = search rules
+pub overflow_sub-result : goal.overflow_sub-result
+overflow_sub-result c = omega arith
 
-sub-result : tie.Need-overflow-sub-result
-sub-result c = omega arith
+pub bounds-bytes-k : goal.bounds-bytes-k
+bounds-bytes-k c = omega arith
 
-shared-slice-read-result : tie.Need-shared-slice-read-result
-shared-slice-read-result c = omega arith
-
-returns-2 : tie.Need-returns-2
-returns-2 c = behind _ _ _ c.before.if1.false
-
-pub bit-before-spec : {M : Type 1} → statement M
-bit-before-spec =
-    tie.close (tie.spec returns add-result sub-result shared-slice-read-result returns-2)
+pub returns : goal.returns
+returns c = behind _ _ _ c.if-i-eq0.false
