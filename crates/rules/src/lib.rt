@@ -46,6 +46,7 @@ pub fn rule_of(code: u32, rule: u32, scale: f32) -> DecodeRule
 }
 
 // A stored batch's rule as it was meant.
+#[tactic(auto, unfolding(crate::specs::Rules::as_stored))]
 pub fn stored_rule(rule: u32) -> u32
     ensures { result ≡ as_stored rule }
 {
