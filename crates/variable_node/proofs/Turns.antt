@@ -35,6 +35,13 @@ pub table-low : (n : ℕ) (table : List ℕ) (k i : ℕ) → Listed n table k �
 unfolding Below
 table-low n table k i l h = l.low i h
 
+-- each of a bit's three entries names a place of a message
+pub entry_low : (n : ℕ) (table : List ℕ) (k b a i m : ℕ) → Listed n table k → b < n → a ≡ b * 3 → i < a + 3 → m ≡ k → get_or table i 0 < m
+entry_low n table k b a i m l h e j s =
+    let room = table-room n table k b a l h e in
+    let low : get_or table i 0 < k = table-low n table k i l (omega arith) in
+    omega arith
+
 -- ---- three edges
 
 pub listed-first_more : (llr : List Float) (table : List ℕ) (b a : ℕ) (w w₀ : List Float) → a ≡ b * 3 → a + 3 ≤ length table
