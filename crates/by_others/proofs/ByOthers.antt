@@ -247,7 +247,8 @@ module _ (scale : Float) where
   -- at each entry the answer from its others, those before it folded already
   unfoldable pub answers_from : Float → Float → List Float → List Float
   answers_from least sign [] = []
-  answers_from least sign (x ∷ xs) = ((scale ⊗ fold_from turned_by sign xs) ⊗ fold_from lesser_of least xs) ∷ answers_from (lesser_of least x) (turned x sign) xs
+  answers_from least sign (x ∷ xs) = ((scale ⊗ fold_from turned_by sign xs) ⊗ fold_from lesser_of least xs)
+      ∷ answers_from (lesser_of least x) (turned x sign) xs
 
   pub others-shared : (passed xs : List Float) → over_others (others_answer scale) passed xs ≡ answers_from (least_of passed) (sign_of passed) xs
   unfolding over_others answers_from fold_from

@@ -66,7 +66,8 @@ lengths-right n k llr bits work a b c = simp (eq-eqb (length llr) n a, eq-eqb (l
 
 -- and so are the numbers
 pub soft-right : (code rule : ℕ) (llr : List Float) (bits : List ℕ) (work : List Float) → code < 3 → rule < 4
-    → length llr ≡ block_length (code_of code) → length bits ≡ (code_of code).k → 3070 ≤ length work → verdict (soft_with_refusals code rule llr bits work) ≡ nothing
+    → length llr ≡ block_length (code_of code) → length bits ≡ (code_of code).k → 3070 ≤ length work → verdict (soft_with_refusals code rule llr bits work)
+        ≡ nothing
 soft-right code rule llr bits work c r a b w =
     simp (lt-ltb code 3 c, le-ltb 4 rule (omega arith), ne_eqb rule 4 (λ e. omega arith))
     (lengths-right (block_length (code_of code)) (code_of code).k llr bits work a b w)

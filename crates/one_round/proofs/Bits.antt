@@ -49,7 +49,8 @@ module _ (flat : List ℕ) (p : ℕ) where
       rw e s.holds
 
 -- what lies at the places of edges
-answers-placed : (place : ℕ → ℕ) (w ans : List Float) (es : List ℕ) → ((k : ℕ) → k < length es → get_or w (place (get_or es k 0)) nan ≡ get_or ans (get_or es k 0) nan)
+answers-placed : (place : ℕ → ℕ) (w ans : List Float) (es : List ℕ)
+    → ((k : ℕ) → k < length es → get_or w (place (get_or es k 0)) nan ≡ get_or ans (get_or es k 0) nan)
     → answers_at w (map place es) ≡ answers_at ans es
 unfolding answers_at
 answers-placed place w ans [] h = refl

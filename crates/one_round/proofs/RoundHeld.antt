@@ -62,7 +62,8 @@ module _ (code : ℕ) (rule : DecodeRule) (llr : List Float) (sized : length llr
   slotted = slotted_by code
 
   -- the first messages
-  pub first-held : (w v : List Float) → length w ≡ room code → v ≡ turns (slot_first (checks_by code) m llr) (size_n code) w → HeldBy code v (first_messages dec)
+  pub first-held : (w v : List Float) → length w ≡ room code → v ≡ turns (slot_first (checks_by code) m llr) (size_n code) w
+      → HeldBy code v (first_messages dec)
   unfolding slot_first room
   first-held w v long e =
       rw e (first_holds dec m d slotted w (omega arith) (slot_first (checks_by code) m llr) (size_n code) (λ b u l. refl) (positions_low code))

@@ -34,7 +34,8 @@ column-length m (suc d) p w = ap suc (column-length m d (m + p) w)
 
 -- ---- a function of each entry
 
-from-map : (f : Float → Float) (m d p : ℕ) (w : List Float) → ((j : ℕ) → j < d → j * m + p < length w) → column_from m d p (map f w) ≡ map f (column_from m d p w)
+from-map : (f : Float → Float) (m d p : ℕ) (w : List Float) → ((j : ℕ) → j < d → j * m + p < length w) → column_from m d p (map f w)
+    ≡ map f (column_from m d p w)
 unfolding column_from
 from-map f m zero p w h = refl
 from-map f m (suc d) p w h =

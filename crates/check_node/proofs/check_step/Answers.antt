@@ -4,7 +4,10 @@ use Rattle.check_node.proofs.Steps.{sum-product_multiplies, ft8_multiplies, min-
 use Rattle.check_node.proofs.check_step.Goals as goal
 
 pub product_step-requires : goal.product_step-requires
-product_step-requires c = record { ts_value = sum-product_multiplies _ c.in-SumProduct.is; work_len = padded_long _ _ _ _ c.scatter.ensures ∙ c.requires.work_len }
+product_step-requires c = record {
+  ts_value = sum-product_multiplies _ c.in-SumProduct.is;
+  work_len = padded_long _ _ _ _ c.scatter.ensures ∙ c.requires.work_len;
+}
 
 pub product_step-requires-in-Ft8 : goal.product_step-requires-in-Ft8
 product_step-requires-in-Ft8 c = record { ts_value = ft8_multiplies _ c.in-Ft8.is; work_len = padded_long _ _ _ _ c.scatter.ensures ∙ c.requires.work_len }

@@ -8,7 +8,8 @@ use Rattle.softmath.specs.CheckNode.{negated_answer}
 use Rattle.each_message.proofs.negated_answers.Given as goal
 
 abbrev pub invariant-loop-i : goal.invariant-loop-i
-invariant-loop-i l = (l.i ≤ length l.part) × (length l.part ≡ length l.initial.part) × (take l.i l.part ++ map negated_answer (drop l.i l.part) ≡ map negated_answer l.initial.part)
+invariant-loop-i l = (l.i ≤ length l.part) × (length l.part ≡ length l.initial.part)
+    × (take l.i l.part ++ map negated_answer (drop l.i l.part) ≡ map negated_answer l.initial.part)
 
 abbrev pub decreases-loop-i : goal.decreases-loop-i
 decreases-loop-i l = length l.initial.part - l.i

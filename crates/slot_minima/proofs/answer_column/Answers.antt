@@ -32,7 +32,8 @@ pub loop-j-preserved : goal.loop-j-preserved
 loop-j-preserved c = let h = c.requires.1 in (
   omega (arith, c.loop-j-test.true),
   apart_more _ _ _ _ _ _ _ _ h refl c.loop-j.invariant.1,
-  answered-more _ _ _ _ _ _ _ _ _ _ h c.loop-j-test.true refl (place_inside _ _ _ _ _ (c.loop-j.invariant.1.size ∙ c.requires.0) c.requires.1 c.loop-j-test.true) c.answer.ensures c.loop-j.invariant.2,
+  answered-more _ _ _ _ _ _ _ _ _ _ h c.loop-j-test.true refl
+      (place_inside _ _ _ _ _ (c.loop-j.invariant.1.size ∙ c.requires.0) c.requires.1 c.loop-j-test.true) c.answer.ensures c.loop-j.invariant.2,
 )
 
 pub returns : goal.returns

@@ -11,7 +11,8 @@ use Rattle.slot_minima.proofs.answer_column.Given as goal
 
 abbrev pub invariant-loop-j : goal.invariant-loop-j
 invariant-loop-j l = (l.j ≤ l.d) × ApartFrom l.m l.d l.c l.initial.work l.work
-    × (take l.j (column l.m l.d l.c l.work) ++ map (answer_to l.scale l.kept) (drop l.j (column l.m l.d l.c l.work)) ≡ map (answer_to l.scale l.kept) (column l.m l.d l.c l.initial.work))
+    × (take l.j (column l.m l.d l.c l.work) ++ map (answer_to l.scale l.kept) (drop l.j (column l.m l.d l.c l.work))
+    ≡ map (answer_to l.scale l.kept) (column l.m l.d l.c l.initial.work))
 
 abbrev pub decreases-loop-j : goal.decreases-loop-j
 decreases-loop-j l = l.d - l.j

@@ -25,7 +25,8 @@ pub loop-j-preserved : goal.loop-j-preserved
 loop-j-preserved c = let h = c.requires.1 in (
   omega (arith, c.loop-j-test.true),
   apart_more _ _ _ _ _ _ _ _ h refl c.loop-j.invariant.1,
-  put-more _ _ _ _ h _ c.loop-j-test.true (place_inside _ _ _ _ _ (c.loop-j.invariant.1.size ∙ c.requires.0) c.requires.1 c.loop-j-test.true) c.loop-j.invariant.2,
+  put-more _ _ _ _ h _ c.loop-j-test.true
+      (place_inside _ _ _ _ _ (c.loop-j.invariant.1.size ∙ c.requires.0) c.requires.1 c.loop-j-test.true) c.loop-j.invariant.2,
 )
 
 pub returns : goal.returns

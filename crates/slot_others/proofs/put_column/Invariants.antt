@@ -7,7 +7,8 @@ use Rattle.slots.proofs.EachColumn.{ApartFrom}
 use Rattle.slot_others.proofs.put_column.Given as goal
 
 abbrev pub invariant-loop-j : goal.invariant-loop-j
-invariant-loop-j l = (l.j ≤ length l.answers) × ApartFrom l.m (length l.answers) l.c l.initial.work l.work × (take l.j (column l.m (length l.answers) l.c l.work) ≡ take l.j l.answers)
+invariant-loop-j l = (l.j ≤ length l.answers) × ApartFrom l.m (length l.answers) l.c l.initial.work l.work
+    × (take l.j (column l.m (length l.answers) l.c l.work) ≡ take l.j l.answers)
 
 abbrev pub decreases-loop-j : goal.decreases-loop-j
 decreases-loop-j l = length l.answers - l.j

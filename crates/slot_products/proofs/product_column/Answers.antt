@@ -34,7 +34,8 @@ pub loop-j-preserved : goal.loop-j-preserved
 loop-j-preserved c = (
   omega (arith, c.loop-j-test.true),
   apart_more _ _ _ _ _ _ _ _ c.requires.1 refl c.loop-j.invariant.1,
-  turned_more _ _ _ _ _ _ _ _ _ c.requires.1 c.loop-j-test.true refl (place_inside _ _ _ _ _ (c.loop-j.invariant.1.size ∙ c.requires.0) c.requires.1 c.loop-j-test.true) c.product_from.ensures c.loop-j.invariant.2,
+  turned_more _ _ _ _ _ _ _ _ _ c.requires.1 c.loop-j-test.true refl
+      (place_inside _ _ _ _ _ (c.loop-j.invariant.1.size ∙ c.requires.0) c.requires.1 c.loop-j-test.true) c.product_from.ensures c.loop-j.invariant.2,
 )
 
 pub returns : goal.returns

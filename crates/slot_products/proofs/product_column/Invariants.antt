@@ -13,7 +13,8 @@ use Rattle.slot_products.proofs.product_column.Given as goal
 
 abbrev pub invariant-loop-j : goal.invariant-loop-j
 invariant-loop-j l = (l.j ≤ l.d) × ApartFrom l.m l.d l.c l.initial.work l.work
-    × (take l.j (column l.m l.d l.c l.work) ++ carried_from ◌⊗◌ l.carried (drop l.j (column l.m l.d l.c l.work)) ≡ at_each product (column l.m l.d l.c l.initial.work))
+    × (take l.j (column l.m l.d l.c l.work) ++ carried_from ◌⊗◌ l.carried (drop l.j (column l.m l.d l.c l.work))
+    ≡ at_each product (column l.m l.d l.c l.initial.work))
 
 abbrev pub decreases-loop-j : goal.decreases-loop-j
 decreases-loop-j l = l.d - l.j
