@@ -2,75 +2,63 @@
 // The file stdout holds what the Rust printed for the messages of the file stdin.
 #![tactic(auto)]
 
-use libc::STDOUT_FILENO;
 use refusal::{Answer, Status};
+use std::io;
+use std::io::{Print, Read};
 
-fn print_checksum(c: Answer) {
+fn print_checksum(rt: &impl Print, c: Answer) -> io::Result<()> {
     match c {
-        Answer::Value(v) => {
-            io::print_hex(STDOUT_FILENO, v as u64, 4);
-        }
-        Answer::Refused(_) => {
-            io::write_all(STDOUT_FILENO, b"refused");
-        }
+        Answer::Value(v) => print!(rt; "{v:04x}"),
+        Answer::Refused(_) => print!(rt; "refused"),
     }
 }
 
 // The checksum of every bit count from 0 to 200.
-fn print_all_counts(message: &[u8]) {
+fn print_all_counts(rt: &impl Print, message: &[u8]) -> io::Result<()> {
     for bits in 0..201 {
-        print_checksum(crc::ft8_crc14(message, bits));
+        print_checksum(rt, crc::ft8_crc14(message, bits))?;
     }
+    Ok(())
 }
 
-fn print_bytes(bytes: &[u8]) {
-    let mut i = 0;
-    while i < bytes.len() {
-        let byte = bytes[i];
-        io::print_hex(STDOUT_FILENO, wide(byte), 2);
-        i += 1;
+fn print_bytes(rt: &impl Print, bytes: &[u8]) -> io::Result<()> {
+    for byte in bytes {
+        print!(rt; "{byte:02x}")?;
     }
+    Ok(())
 }
 
-fn wide(byte: u8) -> u64 {
-    byte as u64
-}
-
-fn print_block(payload: &[u8]) {
+fn print_block(rt: &impl Print, payload: &[u8]) -> io::Result<()> {
     let mut block = [0xFFu8; 12];
     match crc::ft8_add_crc(payload, &mut block) {
-        Status::Done => {
-            print_bytes(&block);
-        }
-        Status::Refused(_) => {
-            io::write_all(STDOUT_FILENO, b"refused");
-        }
+        Status::Done => print_bytes(rt, &block),
+        Status::Refused(_) => print!(rt; "refused"),
     }
 }
 
 // One message; answers whether there was one.
-fn replay_one() -> bool {
+fn replay_one(rt: &impl Print, reader: &mut impl Read) -> io::Result<bool> {
     let mut message = [0u8; 25];
-    let n = io::read_full(0, &mut message);
+    let n = streams::read_all(reader, &mut message)?;
     if n < 25 {
-        return false;
+        return Ok(false);
     }
-    print_all_counts(&message);
-    io::write_all(STDOUT_FILENO, b" ");
-    print_block(&message[0..10]);
-    io::write_all(STDOUT_FILENO, b" ");
-    print_checksum(crc::ft8_extract_crc(&message[0..12]));
-    io::write_all(STDOUT_FILENO, b"\n");
-    true
+    print_all_counts(rt, &message)?;
+    print!(rt; " ")?;
+    print_block(rt, &message[0..10])?;
+    print!(rt; " ")?;
+    print_checksum(rt, crc::ft8_extract_crc(&message[0..12]))?;
+    println!(rt; "")?;
+    Ok(true)
 }
 
 // At most a thousand messages are read.
-fn main() {
-    let mut left: usize = 1000;
-    while left > 0 {
-        if !replay_one() {
-            return;
+fn main(rt: HostRuntime) -> io::Result<()> {
+    let mut stdin = rt.stdin();
+    for _ in 0..1000usize {
+        if !replay_one(&rt, &mut stdin)? {
+            return Ok(());
         }
-        left -= 1;
     }
+    Ok(())
 }

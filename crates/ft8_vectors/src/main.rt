@@ -3,8 +3,9 @@
 // checksum, reads it back, encodes, and prints the payload, the checksum read back and the parity: the line's first three fields.
 #![tactic(auto)]
 
-use libc::STDOUT_FILENO;
 use refusal::{Answer, Status};
+use std::io;
+use std::io::{Print, Read};
 
 // The payload's ten bytes of the line's first 77 digits.
 fn pack(line: &[u8; 215], payload: &mut [u8; 10]) {
@@ -50,80 +51,70 @@ fn digit(codeword: &[u8; 22], checksum: u16, i: usize) -> u8 {
     bit_digit(codeword, i - 2)
 }
 
-fn print_line(text: &[u8; 177]) {
-    io::write_all(STDOUT_FILENO, text);
+fn print_line(rt: &impl Print, text: &[u8; 177]) -> io::Result<()> {
+    rt.write_all(text)
 }
 
-fn print_fields(codeword: &[u8; 22], checksum: u16) {
+fn print_fields(rt: &impl Print, codeword: &[u8; 22], checksum: u16) -> io::Result<()> {
     let mut text = [0u8; 177];
     for i in 0..177 {
         text[i] = digit(codeword, checksum, i);
     }
-    print_line(&text);
+    print_line(rt, &text)
 }
 
-fn print_refused() {
-    io::write_all(STDOUT_FILENO, b"refused\n");
+fn print_refused(rt: &impl Print) -> io::Result<()> {
+    println!(rt; "refused")
 }
 
-fn encode(block: &[u8; 12], checksum: u16) {
+fn encode(rt: &impl Print, block: &[u8; 12], checksum: u16) -> io::Result<()> {
     let mut codeword = [0xFFu8; 22];
     match ldpc_encoding::ldpc_encode(block, &mut codeword) {
-        Status::Done => {
-            print_fields(&codeword, checksum);
-        }
-        Status::Refused(_) => {
-            print_refused();
-        }
+        Status::Done => print_fields(rt, &codeword, checksum),
+        Status::Refused(_) => print_refused(rt),
     }
 }
 
-fn read_back(block: &[u8; 12]) {
+fn read_back(rt: &impl Print, block: &[u8; 12]) -> io::Result<()> {
     match crc::ft8_extract_crc(block) {
-        Answer::Value(checksum) => {
-            encode(block, checksum);
-        }
-        Answer::Refused(_) => {
-            print_refused();
-        }
+        Answer::Value(checksum) => encode(rt, block, checksum),
+        Answer::Refused(_) => print_refused(rt),
     }
 }
 
-fn append(payload: &[u8; 10]) {
+fn append(rt: &impl Print, payload: &[u8; 10]) -> io::Result<()> {
     let mut block = [0u8; 12];
     match crc::ft8_add_crc(payload, &mut block) {
-        Status::Done => {
-            read_back(&block);
-        }
-        Status::Refused(_) => {
-            print_refused();
-        }
+        Status::Done => read_back(rt, &block),
+        Status::Refused(_) => print_refused(rt),
     }
 }
 
 // The fields of a line.
-fn replay(line: &[u8; 215]) {
+fn replay(rt: &impl Print, line: &[u8; 215]) -> io::Result<()> {
     let mut payload = [0u8; 10];
     pack(line, &mut payload);
-    append(&payload);
+    append(rt, &payload)
 }
 
 // One line; answers whether there was one.
-fn replay_one() -> bool {
+fn replay_one(rt: &impl Print, reader: &mut impl Read) -> io::Result<bool> {
     let mut line = [0u8; 215];
-    let n = io::read_full(0, &mut line);
+    let n = streams::read_all(reader, &mut line)?;
     if n < 215 {
-        return false;
+        return Ok(false);
     }
-    replay(&line);
-    true
+    replay(rt, &line)?;
+    Ok(true)
 }
 
 // At most a thousand lines are read.
-fn main() {
+fn main(rt: HostRuntime) -> io::Result<()> {
+    let mut stdin = rt.stdin();
     for _ in 0..1000usize {
-        if !replay_one() {
-            return;
+        if !replay_one(&rt, &mut stdin)? {
+            return Ok(());
         }
     }
+    Ok(())
 }

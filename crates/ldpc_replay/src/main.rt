@@ -3,130 +3,122 @@
 // The file stdout holds what the Rust printed (tools/ldpc_replay.rs).
 #![tactic(auto)]
 
-use libc::STDOUT_FILENO;
 use refusal::Status;
+use std::io;
+use std::io::{Print, Read};
 use tanner::{Counting, FirstCheck};
 
-fn wide(byte: u8) -> u64 {
-    byte as u64
+fn print_byte(rt: &impl Print, byte: u8) -> io::Result<()> {
+    print!(rt; "{byte:02x}")
 }
 
-fn print_byte(byte: u8) {
-    io::print_hex(STDOUT_FILENO, wide(byte), 2);
+fn end_line(rt: &impl Print) -> io::Result<()> {
+    println!(rt; "")
 }
 
-fn end_line() {
-    io::write_all(STDOUT_FILENO, b"\n");
-}
-
-fn print_nm() {
+fn print_nm(rt: &impl Print) -> io::Result<()> {
     for i in 0..581 {
-        print_byte(ldpc::nm_entry(i));
+        print_byte(rt, ldpc::nm_entry(i))?;
     }
-    end_line();
+    end_line(rt)
 }
 
-fn print_num_rows() {
+fn print_num_rows(rt: &impl Print) -> io::Result<()> {
     for i in 0..83 {
-        print_byte(ldpc::num_rows_entry(i));
+        print_byte(rt, ldpc::num_rows_entry(i))?;
     }
-    end_line();
+    end_line(rt)
 }
 
-fn print_mn() {
+fn print_mn(rt: &impl Print) -> io::Result<()> {
     for i in 0..522 {
-        print_byte(ldpc::mn_entry(i));
+        print_byte(rt, ldpc::mn_entry(i))?;
     }
-    end_line();
+    end_line(rt)
 }
 
-fn print_codeword(codeword: &[u8; 22]) {
+fn print_codeword(rt: &impl Print, codeword: &[u8; 22]) -> io::Result<()> {
     for i in 0..22 {
-        print_byte(codeword[i]);
+        print_byte(rt, codeword[i])?;
     }
+    Ok(())
 }
 
-fn print_encoding(message: &[u8; 12]) {
+fn print_encoding(rt: &impl Print, message: &[u8; 12]) -> io::Result<()> {
     let mut codeword = [0xFFu8; 22];
     match ldpc_encoding::ldpc_encode(message, &mut codeword) {
-        Status::Done => {
-            print_codeword(&codeword);
-        }
-        Status::Refused(_) => {
-            io::write_all(STDOUT_FILENO, b"refused");
-        }
+        Status::Done => print_codeword(rt, &codeword)?,
+        Status::Refused(_) => print!(rt; "refused")?,
     }
-    end_line();
+    end_line(rt)
 }
 
 // One message; answers whether there was one.
-fn encode_one() -> bool {
+fn encode_one(rt: &impl Print, reader: &mut impl Read) -> io::Result<bool> {
     let mut message = [0u8; 12];
-    let n = io::read_full(0, &mut message);
+    let n = streams::read_all(reader, &mut message)?;
     if n < 12 {
-        return false;
+        return Ok(false);
     }
-    print_encoding(&message);
-    true
+    print_encoding(rt, &message)?;
+    Ok(true)
 }
 
-fn encode_all() {
+fn encode_all(rt: &impl Print, reader: &mut impl Read) -> io::Result<()> {
     for _ in 0..300usize {
-        if !encode_one() {
-            return;
+        if !encode_one(rt, reader)? {
+            return Ok(());
         }
     }
+    Ok(())
 }
 
-fn print_first(first: FirstCheck) {
+fn print_first(rt: &impl Print, first: FirstCheck) -> io::Result<()> {
     match first {
-        FirstCheck::Check(check) => {
-            io::print_hex(STDOUT_FILENO, check as u64, 2);
-        }
-        FirstCheck::Satisfied => {
-            io::write_all(STDOUT_FILENO, b"--");
-        }
+        FirstCheck::Check(check) => print!(rt; "{check:02x}"),
+        FirstCheck::Satisfied => print!(rt; "--"),
     }
 }
 
-fn print_count(c: Counting) {
+fn print_count(rt: &impl Print, c: Counting) -> io::Result<()> {
     match c {
         Counting::Counted(counted) => {
-            io::print_hex(STDOUT_FILENO, counted.count as u64, 2);
+            let count = counted.count;
+            print!(rt; "{count:02x}")?;
             let first = counted.first;
-            print_first(first);
+            print_first(rt, first)?;
         }
-        Counting::Refused(_) => {
-            io::write_all(STDOUT_FILENO, b"refused");
-        }
+        Counting::Refused(_) => print!(rt; "refused")?,
     }
-    end_line();
+    end_line(rt)
 }
 
 // One word; answers whether there was one.
-fn count_one() -> bool {
+fn count_one(rt: &impl Print, reader: &mut impl Read) -> io::Result<bool> {
     let mut word = [0u8; 174];
-    let n = io::read_full(0, &mut word);
+    let n = streams::read_all(reader, &mut word)?;
     if n < 174 {
-        return false;
+        return Ok(false);
     }
-    print_count(ldpc::ldpc_count_errors(&word));
-    true
+    print_count(rt, ldpc::ldpc_count_errors(&word))?;
+    Ok(true)
 }
 
 // At most a thousand words are read.
-fn count_all() {
+fn count_all(rt: &impl Print, reader: &mut impl Read) -> io::Result<()> {
     for _ in 0..1000usize {
-        if !count_one() {
-            return;
+        if !count_one(rt, reader)? {
+            return Ok(());
         }
     }
+    Ok(())
 }
 
-fn main() {
-    print_nm();
-    print_num_rows();
-    print_mn();
-    encode_all();
-    count_all();
+fn main(rt: HostRuntime) -> io::Result<()> {
+    let mut stdin = rt.stdin();
+    print_nm(&rt)?;
+    print_num_rows(&rt)?;
+    print_mn(&rt)?;
+    encode_all(&rt, &mut stdin)?;
+    count_all(&rt, &mut stdin)
 }

@@ -4,24 +4,16 @@
 ghost use Rattle.std.specs.Prelude.{◌<◌};
 
 use construction::codes::{N512R12, N512R34, N576R23};
-use libc::STDOUT_FILENO;
-
-fn wider(entry: u16) -> u64 {
-    entry as u64
-}
+use std::io;
+use std::io::Print;
 
 // A table's text: its head, and an entry a line.
-fn print_table(head: &[u8], table: &[u16]) {
-    io::write_all(STDOUT_FILENO, head);
-    let mut i = 0;
-    while i < table.len() {
-        let entry = table[i];
-        io::write_all(STDOUT_FILENO, b"    ");
-        io::print_decimal(STDOUT_FILENO, wider(entry));
-        io::write_all(STDOUT_FILENO, b",\n");
-        i += 1;
+fn print_table(rt: &impl Print, head: &str, table: &[u16]) -> io::Result<()> {
+    println!(rt; "{head}")?;
+    for entry in table {
+        println!(rt; "    {entry},")?;
     }
-    io::write_all(STDOUT_FILENO, b"];\n");
+    println!(rt; "];")
 }
 
 // v at place `at`, if there is one; the next place.
@@ -146,7 +138,7 @@ fn fill_places(table: &[u16], width: usize, k: u16, m: usize, edges: &mut [u16])
     }
 }
 
-fn print_n512r12() {
+fn print_n512r12(rt: &impl Print) -> io::Result<()> {
     let columns = N512R12::construct();
     let rows = columns.rows;
     let mut check_starts = [0u16; 257];
@@ -156,23 +148,14 @@ fn print_n512r12() {
     fill_checks(&rows, 256, 256, &mut check_starts, &mut check_bits);
     fill_taps(&rows, 256, 256, &mut table);
     fill_places(&table, 3, 256, 256, &mut message_edges);
-    print_table(b"\npub const N512R12_ROWS: [u16; 768] = [\n", &rows);
-    print_table(
-        b"\npub const N512R12_CHECK_STARTS: [u16; 257] = [\n",
-        &check_starts,
-    );
-    print_table(
-        b"\npub const N512R12_CHECK_BITS: [u16; 1279] = [\n",
-        &check_bits,
-    );
-    print_table(b"\npub const N512R12_TAPS: [u16; 768] = [\n", &table);
-    print_table(
-        b"\npub const N512R12_EDGES: [u16; 768] = [\n",
-        &message_edges,
-    );
+    print_table(rt, "\npub const N512R12_ROWS: [u16; 768] = [", &rows)?;
+    print_table(rt, "\npub const N512R12_CHECK_STARTS: [u16; 257] = [", &check_starts)?;
+    print_table(rt, "\npub const N512R12_CHECK_BITS: [u16; 1279] = [", &check_bits)?;
+    print_table(rt, "\npub const N512R12_TAPS: [u16; 768] = [", &table)?;
+    print_table(rt, "\npub const N512R12_EDGES: [u16; 768] = [", &message_edges)
 }
 
-fn print_n576r23() {
+fn print_n576r23(rt: &impl Print) -> io::Result<()> {
     let columns = N576R23::construct();
     let rows = columns.rows;
     let mut check_starts = [0u16; 193];
@@ -182,23 +165,14 @@ fn print_n576r23() {
     fill_checks(&rows, 384, 192, &mut check_starts, &mut check_bits);
     fill_taps(&rows, 384, 192, &mut table);
     fill_places(&table, 6, 384, 192, &mut message_edges);
-    print_table(b"\npub const N576R23_ROWS: [u16; 1152] = [\n", &rows);
-    print_table(
-        b"\npub const N576R23_CHECK_STARTS: [u16; 193] = [\n",
-        &check_starts,
-    );
-    print_table(
-        b"\npub const N576R23_CHECK_BITS: [u16; 1535] = [\n",
-        &check_bits,
-    );
-    print_table(b"\npub const N576R23_TAPS: [u16; 1152] = [\n", &table);
-    print_table(
-        b"\npub const N576R23_EDGES: [u16; 1152] = [\n",
-        &message_edges,
-    );
+    print_table(rt, "\npub const N576R23_ROWS: [u16; 1152] = [", &rows)?;
+    print_table(rt, "\npub const N576R23_CHECK_STARTS: [u16; 193] = [", &check_starts)?;
+    print_table(rt, "\npub const N576R23_CHECK_BITS: [u16; 1535] = [", &check_bits)?;
+    print_table(rt, "\npub const N576R23_TAPS: [u16; 1152] = [", &table)?;
+    print_table(rt, "\npub const N576R23_EDGES: [u16; 1152] = [", &message_edges)
 }
 
-fn print_n512r34() {
+fn print_n512r34(rt: &impl Print) -> io::Result<()> {
     let columns = N512R34::construct();
     let rows = columns.rows;
     let mut check_starts = [0u16; 129];
@@ -208,24 +182,15 @@ fn print_n512r34() {
     fill_checks(&rows, 384, 128, &mut check_starts, &mut check_bits);
     fill_taps(&rows, 384, 128, &mut table);
     fill_places(&table, 9, 384, 128, &mut message_edges);
-    print_table(b"\npub const N512R34_ROWS: [u16; 1152] = [\n", &rows);
-    print_table(
-        b"\npub const N512R34_CHECK_STARTS: [u16; 129] = [\n",
-        &check_starts,
-    );
-    print_table(
-        b"\npub const N512R34_CHECK_BITS: [u16; 1407] = [\n",
-        &check_bits,
-    );
-    print_table(b"\npub const N512R34_TAPS: [u16; 1152] = [\n", &table);
-    print_table(
-        b"\npub const N512R34_EDGES: [u16; 1152] = [\n",
-        &message_edges,
-    );
+    print_table(rt, "\npub const N512R34_ROWS: [u16; 1152] = [", &rows)?;
+    print_table(rt, "\npub const N512R34_CHECK_STARTS: [u16; 129] = [", &check_starts)?;
+    print_table(rt, "\npub const N512R34_CHECK_BITS: [u16; 1407] = [", &check_bits)?;
+    print_table(rt, "\npub const N512R34_TAPS: [u16; 1152] = [", &table)?;
+    print_table(rt, "\npub const N512R34_EDGES: [u16; 1152] = [", &message_edges)
 }
 
-fn main() {
-    print_n512r12();
-    print_n576r23();
-    print_n512r34();
+fn main(rt: HostRuntime) -> io::Result<()> {
+    print_n512r12(&rt)?;
+    print_n576r23(&rt)?;
+    print_n512r34(&rt)
 }

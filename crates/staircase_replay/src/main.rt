@@ -3,143 +3,129 @@
 #![tactic(auto)]
 
 use construction::codes::{N512R12, N512R34, N576R23};
-use libc::STDOUT_FILENO;
 use refusal::Status;
 use staircase::tables::{
     N512R12_CHECK_BITS, N512R12_CHECK_STARTS, N512R12_EDGES, N512R12_TAPS, N512R34_CHECK_BITS,
     N512R34_CHECK_STARTS, N512R34_EDGES, N512R34_TAPS, N576R23_CHECK_BITS, N576R23_CHECK_STARTS,
     N576R23_EDGES, N576R23_TAPS,
 };
+use std::io;
+use std::io::{Print, Read};
 use tanner::{Counting, FirstCheck};
 
-fn wide(byte: u8) -> u64 {
-    byte as u64
-}
-
-fn wider(entry: u16) -> u64 {
-    entry as u64
-}
-
-fn print_table(table: &[u16]) {
-    let mut i = 0;
-    while i < table.len() {
-        let entry = table[i];
-        io::print_hex(STDOUT_FILENO, wider(entry), 4);
-        i += 1;
+fn print_table(rt: &impl Print, table: &[u16]) -> io::Result<()> {
+    for entry in table {
+        print!(rt; "{entry:04x}")?;
     }
-    io::write_all(STDOUT_FILENO, b"\n");
+    println!(rt; "")
 }
 
-fn print_bytes(bytes: &[u8]) {
-    let mut i = 0;
-    while i < bytes.len() {
-        let byte = bytes[i];
-        io::print_hex(STDOUT_FILENO, wide(byte), 2);
-        i += 1;
+fn print_bytes(rt: &impl Print, bytes: &[u8]) -> io::Result<()> {
+    for byte in bytes {
+        print!(rt; "{byte:02x}")?;
     }
-    io::write_all(STDOUT_FILENO, b"\n");
+    println!(rt; "")
 }
 
 // The rows of the message columns, as the construction gives them when it runs, and how many picks were relaxed.
-fn print_columns() {
+fn print_columns(rt: &impl Print) -> io::Result<()> {
     let a = N512R12::construct();
     let rows = a.rows;
-    print_table(&rows);
-    io::print_hex(STDOUT_FILENO, a.relaxed as u64, 4);
+    print_table(rt, &rows)?;
+    let relaxed = a.relaxed;
+    print!(rt; "{relaxed:04x}")?;
     let b = N576R23::construct();
     let rows = b.rows;
-    print_table(&rows);
-    io::print_hex(STDOUT_FILENO, b.relaxed as u64, 4);
+    print_table(rt, &rows)?;
+    let relaxed = b.relaxed;
+    print!(rt; "{relaxed:04x}")?;
     let c = N512R34::construct();
     let rows = c.rows;
-    print_table(&rows);
-    io::print_hex(STDOUT_FILENO, c.relaxed as u64, 4);
+    print_table(rt, &rows)?;
+    let relaxed = c.relaxed;
+    print!(rt; "{relaxed:04x}")
 }
 
-fn print_checks() {
-    print_table(&N512R12_CHECK_STARTS);
-    print_table(&N512R12_CHECK_BITS);
-    print_table(&N576R23_CHECK_STARTS);
-    print_table(&N576R23_CHECK_BITS);
-    print_table(&N512R34_CHECK_STARTS);
-    print_table(&N512R34_CHECK_BITS);
+fn print_checks(rt: &impl Print) -> io::Result<()> {
+    print_table(rt, &N512R12_CHECK_STARTS)?;
+    print_table(rt, &N512R12_CHECK_BITS)?;
+    print_table(rt, &N576R23_CHECK_STARTS)?;
+    print_table(rt, &N576R23_CHECK_BITS)?;
+    print_table(rt, &N512R34_CHECK_STARTS)?;
+    print_table(rt, &N512R34_CHECK_BITS)
 }
 
-fn print_shapes() {
-    print_table(&N512R12_TAPS);
-    print_table(&N512R12_EDGES);
-    print_table(&N576R23_TAPS);
-    print_table(&N576R23_EDGES);
-    print_table(&N512R34_TAPS);
-    print_table(&N512R34_EDGES);
+fn print_shapes(rt: &impl Print) -> io::Result<()> {
+    print_table(rt, &N512R12_TAPS)?;
+    print_table(rt, &N512R12_EDGES)?;
+    print_table(rt, &N576R23_TAPS)?;
+    print_table(rt, &N576R23_EDGES)?;
+    print_table(rt, &N512R34_TAPS)?;
+    print_table(rt, &N512R34_EDGES)
 }
 
-fn print_first(first: FirstCheck) {
+fn print_first(rt: &impl Print, first: FirstCheck) -> io::Result<()> {
     match first {
-        FirstCheck::Check(check) => {
-            io::print_hex(STDOUT_FILENO, check as u64, 4);
-        }
-        FirstCheck::Satisfied => {
-            io::write_all(STDOUT_FILENO, b"----");
-        }
+        FirstCheck::Check(check) => print!(rt; "{check:04x}"),
+        FirstCheck::Satisfied => print!(rt; "----"),
     }
 }
 
-fn print_weight(w: Counting) {
+fn print_weight(rt: &impl Print, w: Counting) -> io::Result<()> {
     match w {
         Counting::Counted(counted) => {
-            io::print_hex(STDOUT_FILENO, counted.count as u64, 4);
+            let count = counted.count;
+            print!(rt; "{count:04x}")?;
             let first = counted.first;
-            print_first(first);
+            print_first(rt, first)
         }
-        Counting::Refused(_) => {
-            io::write_all(STDOUT_FILENO, b"refused");
-        }
+        Counting::Refused(_) => print!(rt; "refused"),
     }
 }
 
 // The codeword of a message, where it is not refused.
-fn print_encoding(code: u32, message: &[u8], codeword: &mut [u8]) {
+fn print_encoding(
+    rt: &impl Print,
+    code: u32,
+    message: &[u8],
+    codeword: &mut [u8],
+) -> io::Result<()> {
     match ldpc_codes::encode(code, message, codeword) {
-        Status::Done => {
-            print_bytes(codeword);
-        }
-        Status::Refused(_) => {
-            io::write_all(STDOUT_FILENO, b"refused");
-        }
+        Status::Done => print_bytes(rt, codeword),
+        Status::Refused(_) => print!(rt; "refused"),
     }
 }
 
 // One word; answers whether there was one.
-fn replay_one() -> bool {
+fn replay_one(rt: &impl Print, reader: &mut impl Read) -> io::Result<bool> {
     let mut word = [0u8; 576];
-    let n = io::read_full(0, &mut word);
+    let n = streams::read_all(reader, &mut word)?;
     if n < 576 {
-        return false;
+        return Ok(false);
     }
     let mut first = [0xFFu8; 512];
-    print_encoding(0, &word[0..256], &mut first);
+    print_encoding(rt, 0, &word[0..256], &mut first)?;
     let mut second = [0xFFu8; 576];
-    print_encoding(1, &word[0..384], &mut second);
+    print_encoding(rt, 1, &word[0..384], &mut second)?;
     let mut third = [0xFFu8; 512];
-    print_encoding(2, &word[0..384], &mut third);
-    print_weight(ldpc_codes::syndrome_weight(0, &word));
-    print_weight(ldpc_codes::syndrome_weight(1, &word));
-    print_weight(ldpc_codes::syndrome_weight(2, &word));
-    io::write_all(STDOUT_FILENO, b"\n");
-    true
+    print_encoding(rt, 2, &word[0..384], &mut third)?;
+    print_weight(rt, ldpc_codes::syndrome_weight(0, &word))?;
+    print_weight(rt, ldpc_codes::syndrome_weight(1, &word))?;
+    print_weight(rt, ldpc_codes::syndrome_weight(2, &word))?;
+    println!(rt; "")?;
+    Ok(true)
 }
 
 // At most a thousand words are read.
-fn main() {
-    print_columns();
-    print_checks();
-    print_shapes();
-    let mut left: usize = 1000;
-    while left > 0 {
-        if !replay_one() {
-            return;
+fn main(rt: HostRuntime) -> io::Result<()> {
+    print_columns(&rt)?;
+    print_checks(&rt)?;
+    print_shapes(&rt)?;
+    let mut stdin = rt.stdin();
+    for _ in 0..1000usize {
+        if !replay_one(&rt, &mut stdin)? {
+            return Ok(());
         }
-        left -= 1;
     }
+    Ok(())
 }
