@@ -103,7 +103,8 @@ module _ (bs : List ℕ) where
   pub number_more : (i b : ℕ) → i < length bs → b ≡ get_or (low_bits bs) i 0 → number (take i (low_bits bs)) * 2 + b ≡ number (take (i + 1) (low_bits bs))
   unfolding number_after
   number_more i b h e =
-      sym (rw (add-one i) (ap number (take-suc (low_bits bs) i 0 (rw (low-length bs) h))) ∙ number_append 0 (take i (low_bits bs)) (get_or (low_bits bs) i 0 ∷ [])
+      sym (rw (add-one i) (ap number (take-suc (low_bits bs) i 0 (rw (low-length bs) h)))
+      ∙ number_append 0 (take i (low_bits bs)) (get_or (low_bits bs) i 0 ∷ [])
       ∙ rw e)
 
   pub all_digits : (i : ℕ) → length bs ≤ i → take i (low_bits bs) ≡ low_bits bs

@@ -10,7 +10,7 @@ ghost use Rattle.tanner.specs.Checks.{low_bits};
 ghost use Rattle.clean.specs.Clean.{any_nan, payload_checksum, carried_checksum, checksum_right, frame_clean};
 
 // The checksum that a block's bits carry, and the one computed of its payload.
-#[derive(Drop)]
+#[derive(Clone, Copy)]
 pub struct Checksums {
     pub carried: u16,
     pub computed: u16,

@@ -156,13 +156,15 @@ drop_nine a e =
     drop-cons a 9 0 (omega arith)
     ∙ ap (λ (l : List ℕ). get_or a 9 0 ∷ l)
     (drop-cons a 10 0 (omega arith)
-    ∙ ap (λ (l : List ℕ). get_or a 10 0 ∷ l) (drop-cons a 11 0 (omega arith) ∙ ap (λ (l : List ℕ). get_or a 11 0 ∷ l) (drop_of_length-le a {i = 12} (omega arith))))
+    ∙ ap (λ (l : List ℕ). get_or a 10 0 ∷ l)
+    (drop-cons a 11 0 (omega arith) ∙ ap (λ (l : List ℕ). get_or a 11 0 ∷ l) (drop_of_length-le a {i = 12} (omega arith))))
 
 twelve : (a : List ℕ) → length a ≡ 12 → a ≡ take 9 a ++ get_or a 9 0 ∷ get_or a 10 0 ∷ get_or a 11 0 ∷ []
 twelve a e = sym (take-append-drop 9 a) ∙ ap (λ (l : List ℕ). take 9 a ++ l) (drop_nine a e)
 
 -- the payload laid into a block, byte by byte
-pub laid-set : (p a l : List ℕ) → length p ≡ 10 → length a ≡ 12 → l ≡ take 9 p ++ drop 9 a → set (set (set l 9 (bit_and (get_or p 9 0) 0xF8)) 10 0) 11 0 ≡ laid p
+pub laid-set : (p a l : List ℕ) → length p ≡ 10 → length a ≡ 12 → l ≡ take 9 p ++ drop 9 a
+    → set (set (set l 9 (bit_and (get_or p 9 0) 0xF8)) 10 0) 11 0 ≡ laid p
 unfolding laid
 laid-set p a l ep ea e =
     let t = take 9 p in
