@@ -2,10 +2,20 @@
 // among the arguments, from 1, and the reason; the last line has the figures of all frames counted.
 #![tactic(auto)]
 
-ghost use Rattle.std.specs.Prelude.{◌≡◌, ◌≤◌, length};
+ghost use Rattle.std.specs.Prelude.{◌≡◌, ◌≤◌, length, IfOk};
 
 use figures::Totals;
-use streams::Got;
+use std::env::{Env, FillError};
+use std::io::{Eprint, ErrorKind, Print};
+use std::rt::Files;
+use std::{fs, io, str};
+
+// What was read of a file: so many bytes, or that it could not be read.
+#[derive(Drop)]
+struct Got {
+    readable: bool,
+    bytes: usize,
+}
 
 // Room for the longest input and one byte more, by which a longer one is seen.
 fn input_room() -> [u8; 65537]
@@ -14,54 +24,89 @@ fn input_room() -> [u8; 65537]
     [0; 65537]
 }
 
-// The file that argument i names. An argument that is too long for a path names none.
-fn read_file(i: usize, input: &mut [u8]) -> Got
+// Reads the file of that name to its end, or until the room is full. A name that is not text is no file's here.
+fn read_named<R: Files>(rt: &R, name: &[u8], input: &mut [u8]) -> io::Result<usize>
+    ensures { IfOk result (λ n. n ≤ length input.new) }
+{
+    match str::from_utf8(name) {
+        Ok(path) => {
+            let mut file = fs::open(rt, path)?;
+            streams::read_all(&mut file, input)
+        }
+        Err(_) => Err(io::Error::from(ErrorKind::InvalidFilename)),
+    }
+}
+
+// Reads the file that argument i names. An argument that is too long for a path names none.
+fn read_argument<R: Files + Env>(rt: &R, i: usize, input: &mut [u8]) -> io::Result<usize>
+    ensures { IfOk result (λ n. n ≤ length input.new) }
+{
+    let mut path = [0u8; 4096];
+    match rt.arg(i, &mut path) {
+        Ok(k) => read_named(rt, &path[..k], input),
+        Err(_) => Err(io::Error::from(ErrorKind::InvalidFilename)),
+    }
+}
+
+// The file that argument i names.
+fn read_file<R: Files + Env>(rt: &R, i: usize, input: &mut [u8]) -> Got
     ensures { result.bytes ≤ length input.new }
 {
-    let mut path = io::buffer();
-    let k = os::arg(i, &mut path);
-    let fd = os::open_read(&path[..k]);
-    if fd < 0 {
-        return Got {
+    match read_argument(rt, i, input) {
+        Ok(n) => Got {
+            readable: true,
+            bytes: n,
+        },
+        Err(_) => Got {
             readable: false,
             bytes: 0,
-        };
+        },
     }
-    let got = streams::read_all(fd, input);
-    libc::close(fd);
-    got
 }
 
 // The total after the file that argument i names; its line is written where it has one.
-fn count_file(total: Totals, i: usize) -> Totals {
+fn count_file<R: Files + Env + Print + Eprint>(
+    rt: &R,
+    total: Totals,
+    i: usize,
+) -> io::Result<Totals> {
     let mut input = input_room();
-    let got = read_file(i, &mut input);
+    let got = read_file(rt, i, &mut input);
     let n = got.bytes;
-    let mut out = io::buffer();
+    let mut out = [0u8; 4096];
     let step = figure_report::add_file(total, i as u64, got.readable, &input[..n], &mut out);
     let end = step.end;
-    streams::print(&out[..end]);
-    step.total
+    streams::print(rt, &out[..end])?;
+    Ok(step.total)
 }
 
-fn print_totals(total: Totals) {
-    let mut out = io::buffer();
+fn print_totals<R: Print + Eprint>(rt: &R, total: Totals) -> io::Result<()> {
+    let mut out = [0u8; 4096];
     let end = figure_lines::totals_line(&mut out, 0, total);
-    streams::print(&out[..end]);
+    streams::print(rt, &out[..end])
 }
 
-fn main() {
+// Whether there is an argument i; its first byte is asked for alone.
+fn is_given(rt: &impl Env, i: usize) -> bool {
+    let mut first = [0u8; 1];
+    match rt.arg(i, &mut first) {
+        Err(FillError::NotPresent) => false,
+        _ => true,
+    }
+}
+
+fn main(rt: HostRuntime) -> io::Result<()> {
     let mut total = Totals {
         frames: 0,
         clean: 0,
         counts: 0,
         rounds: 0,
     };
-    let n = os::arg_count();
-    let mut i = 1;
-    while i < n {
-        total = count_file(total, i);
-        i += 1;
+    for i in 1..usize::MAX {
+        if !is_given(&rt, i) {
+            break;
+        }
+        total = count_file(&rt, total, i)?;
     }
-    print_totals(total);
+    print_totals(&rt, total)
 }

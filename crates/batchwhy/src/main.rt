@@ -3,7 +3,7 @@
 
 ghost use Rattle.std.specs.Prelude.{◌≡◌, length};
 
-use libc::STDIN_FILENO;
+use std::io;
 
 // Room for a place, the longest batch and one byte more, by which a longer one is seen.
 fn input_room() -> [u8; 65539]
@@ -12,15 +12,14 @@ fn input_room() -> [u8; 65539]
     [0; 65539]
 }
 
-fn main() {
+fn main(rt: HostRuntime) -> io::Result<()> {
     let mut input = input_room();
-    let got = streams::read_all(STDIN_FILENO, &mut input);
-    if !got.readable {
-        streams::unread();
-        return;
+    match streams::read_all(&mut rt.stdin(), &mut input) {
+        Ok(n) => {
+            let mut out = [0u8; 4096];
+            let m = why::why(&input[..n], &mut out);
+            streams::print(&rt, &out[..m])
+        }
+        Err(error) => streams::unread(&rt, error),
     }
-    let n = got.bytes;
-    let mut out = io::buffer();
-    let m = why::why(&input[..n], &mut out);
-    streams::print(&out[..m]);
 }

@@ -7,8 +7,9 @@
 
 ghost use Rattle.std.specs.Prelude.{◌≡◌, ◌<◌, ◌≤◌, length};
 
-use libc::{STDIN_FILENO, STDOUT_FILENO};
 use softmath::{DecodeRule, SumKind};
+use std::io;
+use std::io::{Print, Read};
 
 const MOST_RECORDS: usize = 8192;
 
@@ -19,21 +20,19 @@ const EDGES: [u16; 3] = [3, 7, 1];
 
 const NO_PADS: [u16; 1] = [0];
 
-fn print_float(x: f32) {
+fn print_float(rt: &impl Print, x: f32) -> io::Result<()> {
     if x != x {
-        io::write_all(STDOUT_FILENO, b"nan\n");
-        return;
+        return println!(rt; "nan");
     }
-    io::print_hex(STDOUT_FILENO, f32::to_bits(x) as u64, 8);
-    io::write_all(STDOUT_FILENO, b"\n");
+    let bits = f32::to_bits(x);
+    println!(rt; "{bits:08x}")
 }
 
-fn print_floats(xs: &[f32]) {
-    let mut i = 0;
-    while i < xs.len() {
-        print_float(xs[i]);
-        i += 1;
+fn print_floats(rt: &impl Print, xs: &[f32]) -> io::Result<()> {
+    for x in xs {
+        print_float(rt, *x)?;
     }
+    Ok(())
 }
 
 // The float that a word's bits stand for: a NaN's bits give a NaN that an operation makes.
@@ -76,110 +75,123 @@ fn load(bytes: &[u8; 52]) -> [f32; 11]
     floats
 }
 
-fn functions(floats: &[f32], n: usize) {
-    let mut i = 0;
-    while i < n {
+fn functions(rt: &impl Print, floats: &[f32], n: usize) -> io::Result<()> {
+    for i in 0..n {
         if i < floats.len() {
-            print_float(softmath::fast_tanh(floats[i]));
-            print_float(softmath::fast_atanh(floats[i]));
+            print_float(rt, softmath::fast_tanh(floats[i]))?;
+            print_float(rt, softmath::fast_atanh(floats[i]))?;
         }
-        i += 1;
     }
+    Ok(())
 }
 
 // One check is a work area whose slots have one place each.
-fn check_step(rule: DecodeRule, part: &mut [f32]) {
+fn check_step(rt: &impl Print, rule: DecodeRule, part: &mut [f32]) -> io::Result<()> {
     let none = NO_PADS;
     let n = part.len();
     check_node::check_step(rule, 1, n, &none[..0], part);
-    print_floats(part);
+    print_floats(rt, part)
 }
 
 // The check step on the first n floats.
-fn check(rule: DecodeRule, floats: &mut [f32], n: usize) {
+fn check(rt: &impl Print, rule: DecodeRule, floats: &mut [f32], n: usize) -> io::Result<()> {
     if n <= floats.len() {
-        check_step(rule, &mut floats[..n]);
+        check_step(rt, rule, &mut floats[..n])?;
     }
+    Ok(())
 }
 
-fn step_by_others(scale: f32, messages: &[f32], answers: &mut [f32])
+fn step_by_others(
+    rt: &impl Print,
+    scale: f32,
+    messages: &[f32],
+    answers: &mut [f32],
+) -> io::Result<()>
     requires { length answers.old ≡ length messages.now }
 {
     by_others::min_sum_by_others(scale, messages, answers);
-    print_floats(answers);
+    print_floats(rt, answers)
 }
 
 // Min-sum on the first n floats by the second engine.
-fn check_by_others(scale: f32, floats: &[f32], n: usize)
+fn check_by_others(rt: &impl Print, scale: f32, floats: &[f32], n: usize) -> io::Result<()>
     requires { n ≤ 11 }
 {
     let mut answers = [0.0f32; 11];
     if n <= floats.len() {
-        step_by_others(scale, &floats[..n], &mut answers[..n]);
+        step_by_others(rt, scale, &floats[..n], &mut answers[..n])?;
     }
+    Ok(())
 }
 
-fn print_bit(bit: u8) {
-    io::print_hex(STDOUT_FILENO, bit as u64, 8);
-    io::write_all(STDOUT_FILENO, b"\n");
+fn print_bit(rt: &impl Print, bit: u8) -> io::Result<()> {
+    println!(rt; "{bit:08x}")
 }
 
 // A bit of three edges: its decision, and the work area with the new messages in it.
-fn bit(kind: SumKind, llr: f32, floats: &mut [f32])
+fn bit(rt: &impl Print, kind: SumKind, llr: f32, floats: &mut [f32]) -> io::Result<()>
     requires { 11 ≡ length floats.old }
 {
     let value = [llr];
     let edges = EDGES;
     let mut hard = [0u8; 1];
     variable_node::listed_bits(kind, 1, &value, &edges, floats, &mut hard);
-    print_bit(hard[0]);
-    print_floats(floats);
+    print_bit(rt, hard[0])?;
+    print_floats(rt, floats)
 }
 
 // Three parity bits, whose edges lie in two slots from place 3 on: the decisions, and the work area with the new messages in it.
-fn parity(llr: f32, floats: &mut [f32])
+fn parity(rt: &impl Print, llr: f32, floats: &mut [f32]) -> io::Result<()>
     requires { 11 ≡ length floats.old }
 {
     let values = [llr; 3];
     let mut hard = [0u8; 3];
     parity_node::parity_bits(0, 3, 3, &values, floats, &mut hard);
-    print_bit(hard[0]);
-    print_bit(hard[1]);
-    print_bit(hard[2]);
-    print_floats(floats);
+    print_bit(rt, hard[0])?;
+    print_bit(rt, hard[1])?;
+    print_bit(rt, hard[2])?;
+    print_floats(rt, floats)
 }
 
-fn replay(bytes: &[u8; 52]) {
+fn replay(rt: &impl Print, bytes: &[u8; 52]) -> io::Result<()> {
     let mut floats = load(bytes);
     let n = wide(bytes[1]);
     if n > FLOATS {
-        return;
+        return Ok(());
     }
     let parameter = float_of(word(bytes, 1));
     let what = bytes[0];
     match what {
-        0 => functions(&floats, n),
-        1 => check(DecodeRule::SumProduct, &mut floats, n),
-        2 => check(DecodeRule::MinSum, &mut floats, n),
-        3 => check(DecodeRule::ScaledMinSum(parameter), &mut floats, n),
-        4 => check(DecodeRule::Ft8, &mut floats, n),
-        5 => bit(SumKind::Total, parameter, &mut floats),
-        6 => bit(SumKind::Others, parameter, &mut floats),
-        7 => check_by_others(1.0, &floats, n),
-        8 => check_by_others(parameter, &floats, n),
-        9 => parity(parameter, &mut floats),
-        _ => {}
+        0 => functions(rt, &floats, n),
+        1 => check(rt, DecodeRule::SumProduct, &mut floats, n),
+        2 => check(rt, DecodeRule::MinSum, &mut floats, n),
+        3 => check(rt, DecodeRule::ScaledMinSum(parameter), &mut floats, n),
+        4 => check(rt, DecodeRule::Ft8, &mut floats, n),
+        5 => bit(rt, SumKind::Total, parameter, &mut floats),
+        6 => bit(rt, SumKind::Others, parameter, &mut floats),
+        7 => check_by_others(rt, 1.0, &floats, n),
+        8 => check_by_others(rt, parameter, &floats, n),
+        9 => parity(rt, parameter, &mut floats),
+        _ => Ok(()),
     }
 }
 
-fn main() {
-    let mut i = 0;
-    while i < MOST_RECORDS {
-        let mut bytes = [0u8; 52];
-        if io::read_full(STDIN_FILENO, &mut bytes) < 52 {
-            return;
-        }
-        replay(&bytes);
-        i += 1;
+// One record; answers whether there was one.
+fn replay_one(rt: &impl Print, reader: &mut impl Read) -> io::Result<bool> {
+    let mut bytes = [0u8; 52];
+    if streams::read_all(reader, &mut bytes)? < 52 {
+        return Ok(false);
     }
+    replay(rt, &bytes)?;
+    Ok(true)
+}
+
+fn main(rt: HostRuntime) -> io::Result<()> {
+    let mut stdin = rt.stdin();
+    for _ in 0..MOST_RECORDS {
+        if !replay_one(&rt, &mut stdin)? {
+            return Ok(());
+        }
+    }
+    Ok(())
 }

@@ -3,7 +3,8 @@
 
 ghost use Rattle.std.specs.Prelude.{◌≡◌, length};
 
-use libc::STDOUT_FILENO;
+use std::io;
+use std::io::{Print, Read};
 use stored_inputs::Stored;
 
 fn input_room() -> [u8; 65539]
@@ -13,22 +14,23 @@ fn input_room() -> [u8; 65539]
 }
 
 // One input; answers whether there was one.
-fn why_one() -> bool {
+fn why_one<R: Read, P: Print>(rt: &P, reader: &mut R) -> io::Result<bool> {
     let mut input = input_room();
-    let Stored::Bytes(n) = stored_inputs::read_next(&mut input) else {
-        return false;
+    let Stored::Bytes(n) = stored_inputs::read_next(reader, &mut input)? else {
+        return Ok(false);
     };
-    let mut out = io::buffer();
+    let mut out = [0u8; 4096];
     let m = why::why(&input[..n], &mut out);
-    io::write_all(STDOUT_FILENO, &out[..m])
+    streams::write_text(&mut io::writer(rt), &out[..m])?;
+    Ok(true)
 }
 
-fn main() {
-    let mut i = 0;
-    while i < stored_inputs::MOST {
-        if !why_one() {
-            return;
+fn main(rt: HostRuntime) -> io::Result<()> {
+    let mut stdin = rt.stdin();
+    for _ in 0..stored_inputs::MOST {
+        if !why_one(&rt, &mut stdin)? {
+            return Ok(());
         }
-        i += 1;
     }
+    Ok(())
 }
