@@ -31,6 +31,9 @@ unfolding le
 over_units u nan y g h t = absurd h
 over_units u (inf w) y g h t = absurd h
 over_units u (fin true l c) y g h t = absurd (true≢false h.0)
+over_units u (fin false l c) nan g h t = elim g [ ]
+over_units u (fin false l c) (inf true) g h t = elim g [ ]
+over_units u (fin false l c) (fin true m e) g h t = elim g [ ]
 over_units u (fin false l c) (inf false) infinite h t = endless
 over_units u (fin false l c) (fin false m e) finite h t =
     counted (through u (l * up c) (m * up e) (2 ^ 149) (down c) (down e) (down_pos c) (le_of_eq (sym h.1)) (or_le _ _ t))
@@ -132,6 +135,8 @@ double x y p h = rw (mul_left_comm y 945 p) (omega arith)
 pub twice_nonzero : {t : Bool} {c : Float} → Part t 2 2 c → (x : Float) → T (fits binary32 x) → eq x zero32 ≡ false → {s : Bool} {j : ℕ} → Part s 0 j x
     → eq (c ⊗ x) zero32 ≡ false
 unfolding mul
+twice_nonzero {t} (part {m = n} {e = d} lo hi) nan f h x = elim x [ ]
+twice_nonzero {t} (part {m = n} {e = d} lo hi) (inf s) f h x = elim x [ ]
 twice_nonzero {t} (part {m = n} {e = d} lo hi) (fin s m e) f h (part lo' hi') =
     round-nonzero (unlike t s) (n * up d * (m * up e)) (down d * down e) (mul-pos (down_pos d) (down_pos e))
     (double (down d * down e) (n * up d * (m * up e)) (2 ^ 149)
@@ -148,6 +153,9 @@ unfolding le
 under-fraction k c x nan g h t = absurd h
 under-fraction k c x (inf w) g h t = absurd h
 under-fraction k c x (fin true n d) g h t = absurd (true≢false h.0)
+under-fraction k c nan (fin false n d) g h t = elim g [ ]
+under-fraction k c (inf true) (fin false n d) g h t = elim g [ ]
+under-fraction k c (fin true m e) (fin false n d) g h t = elim g [ ]
 under-fraction k c (inf false) (fin false n d) infinite h t = absurd t
 under-fraction k c (fin false m e) (fin false n d) finite h t =
     at_most (through (m * up e) (n * up d) k (down e) (down d) c (down_pos d) (or_le _ _ t) (le_of_eq h.1))
