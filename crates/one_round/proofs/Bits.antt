@@ -66,8 +66,8 @@ distinct_placed : (place : ℕ → ℕ) (n : ℕ) → ((e f : ℕ) → e < n →
 distinct_placed place n apart low none = none
 distinct_placed place n apart low (more {e = e} {es = es} a d) =
     more {es = map place es}
-    (λ k l q. let o : k < length es = omega (arith, l, length-map es place) in
-    a k o (apart (get_or es k 0) e (low (suc k) (omega (arith, o))) (low 0 (omega arith)) (sym (map_at place es k 0 0 o) ∙ q)))
+    (λ k l. let o : k < length es = omega (arith, l, length-map es place) in
+    λ q. a k o (apart (get_or es k 0) e (low (suc k) (omega (arith, o))) (low 0 (omega arith)) (sym (map_at place es k 0 0 o) ∙ q)))
     (distinct_placed place n apart (λ k l. low (suc k) (omega arith)) d)
 
 -- ---- the definition, position by position and edge by edge
