@@ -8,7 +8,8 @@ use Rattle.xorshift.specs.Draw.{draw, xor, mixed}
 use Rattle.columns.specs.Rows.{holds, sorted, insert}
 use Rattle.picking.specs.Picks.{settled, up_from, first_outside}
 use Rattle.construction.specs.Columns.{finished, laid_before}
-use Rattle.construction.specs.Quick.{marked, marked_if, marked_by, marks_of, less_of, met, scan, found_in, quick_search, quick_pick, loaded, quick_one_pick, quick_picks}
+use Rattle.construction.specs.Quick.{marked, marked_if, marked_by, marks_of, less_of, met, scan, found_in, quick_search, quick_pick, loaded, quick_one_pick}
+use Rattle.construction.specs.Quick.{quick_picks}
 use Rattle.construction.specs.Quick.{quick_finished, quick_column, quick_columns, quick}
 use Rattle.construction.specs.Codes.{n512r12}
 use Rattle.construction.proofs.Agree.{agree}
@@ -50,6 +51,7 @@ rows0 =
     161 ∷ 195 ∷ 184 ∷ 185 ∷ 197 ∷ 79 ∷ 200 ∷ 201 ∷ 81 ∷ 84 ∷ 208 ∷ 85 ∷ 86 ∷ 89 ∷ []
 
 pub built0 : Built n512r12 rows0
-unfolding draw xor mixed holds settled sorted insert up_from first_outside marked marked_if marked_by marks_of less_of met scan found_in quick_search quick_pick loaded
+unfolding draw xor mixed holds settled sorted insert up_from first_outside marked marked_if marked_by marks_of less_of met scan found_in quick_search
+    quick_pick loaded
     quick_finished finished quick_one_pick quick_picks quick_column quick_columns quick laid_before rows0 threes
 built0 = record { state = 0xac0ce9660e6b49ae; given = sym (agree 256 256 0x4c44504335313200 (omega arith)) ∙ refl; flat = refl }

@@ -153,5 +153,6 @@ places0 =
     596 ∷ 720 ∷ 597 ∷ 598 ∷ 601 ∷ []
 
 pub laid0 : Laid n512r12 rows0 check_starts0 check_bits0 3 taps0 places0
-unfolding joined ends check_rows check_row taps parity_entries holds rows0 threes check_starts0 check_bits0 stair_rows taps_at taps0 slot_by edges_from places places0
+unfolding joined ends check_rows check_row taps parity_entries holds rows0 threes check_starts0 check_bits0 stair_rows taps_at taps0 slot_by edges_from
+    places places0
 laid0 = record { built = built0; bits = refl; ends = refl; shape = refl; slots = refl }

@@ -8,7 +8,8 @@ use Rattle.xorshift.specs.Draw.{draw, xor, mixed}
 use Rattle.columns.specs.Rows.{holds, sorted, insert}
 use Rattle.picking.specs.Picks.{settled, up_from, first_outside}
 use Rattle.construction.specs.Columns.{finished, laid_before}
-use Rattle.construction.specs.Quick.{marked, marked_if, marked_by, marks_of, less_of, met, scan, found_in, quick_search, quick_pick, loaded, quick_one_pick, quick_picks}
+use Rattle.construction.specs.Quick.{marked, marked_if, marked_by, marks_of, less_of, met, scan, found_in, quick_search, quick_pick, loaded, quick_one_pick}
+use Rattle.construction.specs.Quick.{quick_picks}
 use Rattle.construction.specs.Quick.{quick_finished, quick_column, quick_columns, quick}
 use Rattle.construction.specs.Codes.{n512r34}
 use Rattle.construction.proofs.Agree.{agree}
@@ -62,6 +63,7 @@ rows2 =
     44 ∷ 70 ∷ 76 ∷ 45 ∷ 77 ∷ 78 ∷ 79 ∷ 80 ∷ 84 ∷ []
 
 pub built2 : Built n512r34 rows2
-unfolding draw xor mixed holds settled sorted insert up_from first_outside marked marked_if marked_by marks_of less_of met scan found_in quick_search quick_pick loaded
+unfolding draw xor mixed holds settled sorted insert up_from first_outside marked marked_if marked_by marks_of less_of met scan found_in quick_search
+    quick_pick loaded
     quick_finished finished quick_one_pick quick_picks quick_column quick_columns quick laid_before rows2 threes
 built2 = record { state = 0x7ea06dcb05136954; given = sym (agree 384 128 0x4c44504335313202 (omega arith)) ∙ refl; flat = refl }

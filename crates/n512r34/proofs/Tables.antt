@@ -186,5 +186,6 @@ places2 =
     1103 ∷ 1104 ∷ 1108 ∷ []
 
 pub laid2 : Laid n512r34 rows2 check_starts2 check_bits2 9 taps2 places2
-unfolding joined ends check_rows check_row taps parity_entries holds rows2 threes check_starts2 check_bits2 stair_rows taps_at taps2 slot_by edges_from places places2
+unfolding joined ends check_rows check_row taps parity_entries holds rows2 threes check_starts2 check_bits2 stair_rows taps_at taps2 slot_by edges_from
+    places places2
 laid2 = record { built = built2; bits = refl; ends = refl; shape = refl; slots = refl }

@@ -8,7 +8,8 @@ use Rattle.xorshift.specs.Draw.{draw, xor, mixed}
 use Rattle.columns.specs.Rows.{holds, sorted, insert}
 use Rattle.picking.specs.Picks.{settled, up_from, first_outside}
 use Rattle.construction.specs.Columns.{finished, laid_before}
-use Rattle.construction.specs.Quick.{marked, marked_if, marked_by, marks_of, less_of, met, scan, found_in, quick_search, quick_pick, loaded, quick_one_pick, quick_picks}
+use Rattle.construction.specs.Quick.{marked, marked_if, marked_by, marks_of, less_of, met, scan, found_in, quick_search, quick_pick, loaded, quick_one_pick}
+use Rattle.construction.specs.Quick.{quick_picks}
 use Rattle.construction.specs.Quick.{quick_finished, quick_column, quick_columns, quick}
 use Rattle.construction.specs.Codes.{n576r23}
 use Rattle.construction.proofs.Agree.{agree}
@@ -64,6 +65,7 @@ rows1 =
     ∷ 185 ∷ 4 ∷ 187 ∷ 190 ∷ 2 ∷ 3 ∷ 28 ∷ 30 ∷ 31 ∷ 36 ∷ 32 ∷ 37 ∷ 39 ∷ 40 ∷ 41 ∷ 42 ∷ 43 ∷ 44 ∷ 48 ∷ []
 
 pub built1 : Built n576r23 rows1
-unfolding draw xor mixed holds settled sorted insert up_from first_outside marked marked_if marked_by marks_of less_of met scan found_in quick_search quick_pick loaded
+unfolding draw xor mixed holds settled sorted insert up_from first_outside marked marked_if marked_by marks_of less_of met scan found_in quick_search
+    quick_pick loaded
     quick_finished finished quick_one_pick quick_picks quick_column quick_columns quick laid_before rows1 threes
 built1 = record { state = 0x6f57f175536488dd; given = sym (agree 384 192 0x4c44504335313201 (omega arith)) ∙ refl; flat = refl }

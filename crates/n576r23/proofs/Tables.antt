@@ -194,5 +194,6 @@ places1 =
     1002 ∷ 1003 ∷ 1004 ∷ 1008 ∷ []
 
 pub laid1 : Laid n576r23 rows1 check_starts1 check_bits1 6 taps1 places1
-unfolding joined ends check_rows check_row taps parity_entries holds rows1 threes check_starts1 check_bits1 stair_rows taps_at taps1 slot_by edges_from places places1
+unfolding joined ends check_rows check_row taps parity_entries holds rows1 threes check_starts1 check_bits1 stair_rows taps_at taps1 slot_by edges_from
+    places places1
 laid1 = record { built = built1; bits = refl; ends = refl; shape = refl; slots = refl }

@@ -155,5 +155,6 @@ edge_count c some =
     ∙ omega (arith, sum-taps c.m regular, sum-entries c.m (omega arith), columns-length c)
 
 -- "1,279, 1,535 and 1,407"
-pub edge_numbers : (length (joined (checks (code_of 0))) ≡ 1279) × ((length (joined (checks (code_of 1))) ≡ 1535) × (length (joined (checks (code_of 2))) ≡ 1407))
+pub edge_numbers : (length (joined (checks (code_of 0))) ≡ 1279)
+    × ((length (joined (checks (code_of 1))) ≡ 1535) × (length (joined (checks (code_of 2))) ≡ 1407))
 edge_numbers = (edge_count (code_of 0) (omega arith), (edge_count (code_of 1) (omega arith), edge_count (code_of 2) (omega arith)))

@@ -25,18 +25,18 @@ pub bounds-loads-r : goal.bounds-loads-r
 bounds-loads-r c = omega (arith, row_below _ c.loop-i.i _ c.requires.below c.loop-i-test.true)
 
 pub overflow_add-loads : goal.overflow_add-loads
-overflow_add-loads c = let turn = c in
-    let inv = turn.loop-i.invariant in
-    let pre = turn.requires in
-    omega (arith, loaded-room _ _ _ _ turn.loop-i-test.true inv.1.0 pre.below pre.room inv.1.1)
+overflow_add-loads c =
+    let inv = c.loop-i.invariant in
+    let pre = c.requires in
+    omega (arith, loaded-room _ _ _ _ c.loop-i-test.true inv.1.0 pre.below pre.room inv.1.1)
 
 pub bounds-loads-r-in-loop-i : goal.bounds-loads-r-in-loop-i
 bounds-loads-r-in-loop-i c = omega (arith, row_below _ c.loop-i.i _ c.requires.below c.loop-i-test.true)
 
 pub loop-i-preserved : goal.loop-i-preserved
-loop-i-preserved c = let turn = c in
-    let inv = turn.loop-i.invariant in
-    (search rules, (simp length-set (omega arith), loaded-more _ _ _ _ turn.loop-i-test.true inv.1.0 inv.1.1))
+loop-i-preserved c =
+    let inv = c.loop-i.invariant in
+    (search rules, (simp length-set (omega arith), loaded-more _ _ _ _ c.loop-i-test.true inv.1.0 inv.1.1))
 
 pub returns : goal.returns
 returns c = rw (take_all c.loop-i.i c.args.column.now c.loop-i-test.false) at c.loop-i.invariant.1.1

@@ -19,7 +19,8 @@ returns-then-a-b c = simp (le-leb _ _ c.if-a-b.true, lt-leb _ _ c.if-b-c.false, 
 
 pub returns-then-a-c-2 : goal.returns-then-a-c-2
 unfolding sorted insert
-returns-then-a-c-2 c = let h : c.args.b ≤ c.args.c = omega arith in
+returns-then-a-c-2 c =
+    let h : c.args.b ≤ c.args.c = omega arith in
     simp (lt-leb _ _ c.if-a-b.false, le-leb _ _ c.if-a-c-2.true, le-leb _ _ h)
 
 pub returns-then-b-c-2 : goal.returns-then-b-c-2

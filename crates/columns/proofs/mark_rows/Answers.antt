@@ -16,9 +16,9 @@ unfolding Below
 bounds-marks-r c = omega (arith, c.requires c.loop-i.i c.loop-i-test.true)
 
 pub loop-i-preserved : goal.loop-i-preserved
-loop-i-preserved c = let turn = c in
-    let inv = turn.loop-i.invariant in
-    (search rules, (simp length-set (omega arith), marked_more _ _ _ _ turn.loop-i-test.true inv.1.0 inv.1.1))
+loop-i-preserved c =
+    let inv = c.loop-i.invariant in
+    (search rules, (simp length-set (omega arith), marked_more _ _ _ _ c.loop-i-test.true inv.1.0 inv.1.1))
 
 pub returns : goal.returns
 returns c = rw (take_all c.loop-i.i c.args.column.now c.loop-i-test.false) at c.loop-i.invariant.1.1

@@ -12,15 +12,17 @@ pub loop-j-init : goal.loop-j-init
 loop-j-init c = (search rules, (refl, joined-none _ _ _))
 
 pub mark_column-requires : goal.mark_column-requires
-mark_column-requires c = let turn = c in
-    let start = turn in
-    let at = 3 * turn.loop-j.j in
-    rw (turn.loop-j.invariant.1.0, length-set) (below-within _ (3 * start.args.n) at (at + 3 - at) _ (omega arith) start.requires.n_in_bounds start.requires.below)
+mark_column-requires c =
+    let at = 3 * c.loop-j.j in
+    rw (c.loop-j.invariant.1.0, length-set)
+    (below-within _ (3 * c.args.n) at (at + 3 - at) _ (omega arith) c.requires.n_in_bounds c.requires.below)
 
 pub loop-j-preserved : goal.loop-j-preserved
-loop-j-preserved c = let inv = c.loop-j.invariant in
+loop-j-preserved c =
+    let inv = c.loop-j.invariant in
     (search rules, (search rules, joined_more _ _ _ _ _ _ inv.1.0 inv.1.1 c.mark_column.ensures))
 
 pub returns : goal.returns
-returns c = let all : c.loop-j.j ≡ c.args.n = omega arith in
+returns c =
+    let all : c.loop-j.j ≡ c.args.n = omega arith in
     joined-all _ _ _ _ (rw all at c.loop-j.invariant.1.1)

@@ -1,4 +1,5 @@
--- `construction::column` meets its contract: three picks, each at the draw after the one before, are the definition's column, and it is finished. Assumes nothing.
+-- `construction::column` meets its contract: three picks, each at the draw after the one before, are the definition's column, finished.
+-- Assumes nothing.
 use Rattle.construction.proofs.Picks.{picked_three}
 use Rattle.construction.proofs.Made.{column-made}
 use Rattle.construction.proofs.column.Goals as goal

@@ -7,8 +7,8 @@ use Rattle.picking.proofs.Relaxed.{outside-more, outside-found, outside-done}
 use Rattle.picking.proofs.first_outside.Goals as goal
 
 pub loop-r-preserved : goal.loop-r-preserved
-loop-r-preserved c = let turn = c in
-    outside-more _ _ _ _ turn.loop-r.invariant turn.loop-r-test.true (sym c.contains.ensures ∙ c.if-not-contains.false)
+loop-r-preserved c =
+    outside-more _ _ _ _ c.loop-r.invariant c.loop-r-test.true (sym c.contains.ensures ∙ c.if-not-contains.false)
 
 pub returns-then-r-to : goal.returns-then-r-to
 returns-then-r-to c =

@@ -12,12 +12,13 @@ pub search-requires : goal.search-requires
 search-requires c = record { marks_len = search rules; start_in_bounds = mod-lt _ c.requires.loads_nonzero }
 
 pub returns-in_default : goal.returns-in_default
-returns-in_default c = let d = c in
-    let none = sym d.search.ensures.result_value ∙ ap found_of c.in_default.is in
-    let below = outside_below _ _ _ (mod-lt _ d.requires.loads_nonzero) in
+returns-in_default c =
+    let none = sym c.search.ensures.result_value ∙ ap found_of c.in_default.is in
+    let below = outside_below _ _ _ (mod-lt _ c.requires.loads_nonzero) in
     record { result_value = settled_relaxed _ _ _ _ none c.relaxed_row-row.ensures; row_in_bounds = (rw c.relaxed_row-row.ensures below, search rules) }
 
 pub returns : goal.returns
-returns c = let found = c.search.ensures in
+returns c =
+    let found = c.search.ensures in
     let known = ap found_of c.in-Row.is in
     record { result_value = settled-row _ _ _ _ (sym found.result_value ∙ known); row_in_bounds = (below_row known found.found_below, search rules) }

@@ -6,6 +6,7 @@ use Rattle.picking.proofs.Relaxed.{outside_append}
 use Rattle.picking.proofs.relaxed_row.Goals as goal
 
 pub returns : goal.returns
-returns c = let start = c.args.start in
+returns c =
+    let start = c.args.start in
     let z : start - 0 ≡ start = omega arith in
     rw (c.first_outside.ensures, c.first_outside-wrapped.ensures, z) (outside_append _ _ _ _)

@@ -12,4 +12,7 @@ pub search_part-requires : goal.search_part-requires
 search_part-requires c = record { to_in_bounds = search rules; marks_len = search rules; found_below = c.search_part-first.ensures.found_below_2 }
 
 pub returns : goal.returns
-returns c = record { result_value = parts_round _ _ _ _ c.search_part-first.ensures.result_value c.search_part.ensures.result_value; found_below = c.search_part.ensures.found_below_2 }
+returns c = record {
+  result_value = parts_round _ _ _ _ c.search_part-first.ensures.result_value c.search_part.ensures.result_value;
+  found_below = c.search_part.ensures.found_below_2;
+}

@@ -8,15 +8,16 @@ pub loop-r-init : goal.loop-r-init
 loop-r-init c = (c.requires.found_below, refl)
 
 pub loop-r-preserved : goal.loop-r-preserved
-loop-r-preserved c = let met = c in
-    let turn = met in
-    (met.better-found.ensures.found_below_2, part-more _ _ _ _ _ turn.loop-r-test.true met.better-found.ensures.result_value turn.loop-r.invariant.1)
+loop-r-preserved c =
+    (c.better-found.ensures.found_below_2, part-more _ _ _ _ _ c.loop-r-test.true c.better-found.ensures.result_value c.loop-r.invariant.1)
 
 pub returns-after-loop-r : goal.returns-after-loop-r
 returns-after-loop-r c = record { result_value = part_done _ _ _ _ _ c.loop-r-test.false c.loop-r.invariant.1; found_below_2 = c.loop-r.invariant.0 }
 
 pub returns-then-unbeaten : goal.returns-then-unbeaten
-returns-then-unbeaten c = let met = c in
-    let turn = met in
+returns-then-unbeaten c =
     let stops = c.unbeaten.ensures c.if-unbeaten.true in
-    record { result_value = part-stops _ _ _ _ _ turn.loop-r-test.true met.better-found.ensures.result_value stops turn.loop-r.invariant.1; found_below_2 = met.better-found.ensures.found_below_2 }
+    record {
+      result_value = part-stops _ _ _ _ _ c.loop-r-test.true c.better-found.ensures.result_value stops c.loop-r.invariant.1;
+      found_below_2 = c.better-found.ensures.found_below_2;
+    }

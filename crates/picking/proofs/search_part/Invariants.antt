@@ -10,7 +10,8 @@ use Rattle.picking.proofs.search_part.Given as goal
 
 abbrev pub invariant-loop-r : goal.invariant-loop-r
 invariant-loop-r l = let met = met_rows (load_at l.loads) (flag_at l.marks) in
-    (FoundBelow (length l.loads) (found_of l.found)) × (met (up_from l.r (l.to - l.r)) (found_of l.found) ≡ met (up_from l.from (l.to - l.from)) (found_of l.initial.found))
+    FoundBelow (length l.loads) (found_of l.found)
+    × (met (up_from l.r (l.to - l.r)) (found_of l.found) ≡ met (up_from l.from (l.to - l.from)) (found_of l.initial.found))
 
 abbrev pub decreases-loop-r : goal.decreases-loop-r
 decreases-loop-r l = l.to - l.r

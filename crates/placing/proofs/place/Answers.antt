@@ -19,4 +19,5 @@ pub returns : goal.returns
 returns c =
     let p = c.pick_row-taken in
     let pre = c.requires in
-    placed _ _ _ _ _ _ _ (choice_of p.result) pre.0 pre.1 p.ensures.result_value p.ensures.row_in_bounds.0 p.ensures.row_in_bounds.1 c.mark_together.auto.marks c.mark_together.ensures
+    placed _ _ _ _ _ _ _ (choice_of p.result) pre.0 pre.1 p.ensures.result_value p.ensures.row_in_bounds.0 p.ensures.row_in_bounds.1
+    c.mark_together.auto.marks c.mark_together.ensures
