@@ -149,10 +149,22 @@ fn print_n512r12(rt: &impl Print) -> io::Result<()> {
     fill_taps(&rows, 256, 256, &mut table);
     fill_places(&table, 3, 256, 256, &mut message_edges);
     print_table(rt, "\npub const N512R12_ROWS: [u16; 768] = [", &rows)?;
-    print_table(rt, "\npub const N512R12_CHECK_STARTS: [u16; 257] = [", &check_starts)?;
-    print_table(rt, "\npub const N512R12_CHECK_BITS: [u16; 1279] = [", &check_bits)?;
+    print_table(
+        rt,
+        "\npub const N512R12_CHECK_STARTS: [u16; 257] = [",
+        &check_starts,
+    )?;
+    print_table(
+        rt,
+        "\npub const N512R12_CHECK_BITS: [u16; 1279] = [",
+        &check_bits,
+    )?;
     print_table(rt, "\npub const N512R12_TAPS: [u16; 768] = [", &table)?;
-    print_table(rt, "\npub const N512R12_EDGES: [u16; 768] = [", &message_edges)
+    print_table(
+        rt,
+        "\npub const N512R12_EDGES: [u16; 768] = [",
+        &message_edges,
+    )
 }
 
 fn print_n576r23(rt: &impl Print) -> io::Result<()> {
@@ -166,10 +178,22 @@ fn print_n576r23(rt: &impl Print) -> io::Result<()> {
     fill_taps(&rows, 384, 192, &mut table);
     fill_places(&table, 6, 384, 192, &mut message_edges);
     print_table(rt, "\npub const N576R23_ROWS: [u16; 1152] = [", &rows)?;
-    print_table(rt, "\npub const N576R23_CHECK_STARTS: [u16; 193] = [", &check_starts)?;
-    print_table(rt, "\npub const N576R23_CHECK_BITS: [u16; 1535] = [", &check_bits)?;
+    print_table(
+        rt,
+        "\npub const N576R23_CHECK_STARTS: [u16; 193] = [",
+        &check_starts,
+    )?;
+    print_table(
+        rt,
+        "\npub const N576R23_CHECK_BITS: [u16; 1535] = [",
+        &check_bits,
+    )?;
     print_table(rt, "\npub const N576R23_TAPS: [u16; 1152] = [", &table)?;
-    print_table(rt, "\npub const N576R23_EDGES: [u16; 1152] = [", &message_edges)
+    print_table(
+        rt,
+        "\npub const N576R23_EDGES: [u16; 1152] = [",
+        &message_edges,
+    )
 }
 
 fn print_n512r34(rt: &impl Print) -> io::Result<()> {
@@ -183,10 +207,22 @@ fn print_n512r34(rt: &impl Print) -> io::Result<()> {
     fill_taps(&rows, 384, 128, &mut table);
     fill_places(&table, 9, 384, 128, &mut message_edges);
     print_table(rt, "\npub const N512R34_ROWS: [u16; 1152] = [", &rows)?;
-    print_table(rt, "\npub const N512R34_CHECK_STARTS: [u16; 129] = [", &check_starts)?;
-    print_table(rt, "\npub const N512R34_CHECK_BITS: [u16; 1407] = [", &check_bits)?;
+    print_table(
+        rt,
+        "\npub const N512R34_CHECK_STARTS: [u16; 129] = [",
+        &check_starts,
+    )?;
+    print_table(
+        rt,
+        "\npub const N512R34_CHECK_BITS: [u16; 1407] = [",
+        &check_bits,
+    )?;
     print_table(rt, "\npub const N512R34_TAPS: [u16; 1152] = [", &table)?;
-    print_table(rt, "\npub const N512R34_EDGES: [u16; 1152] = [", &message_edges)
+    print_table(
+        rt,
+        "\npub const N512R34_EDGES: [u16; 1152] = [",
+        &message_edges,
+    )
 }
 
 fn main(rt: HostRuntime) -> io::Result<()> {
