@@ -1,4 +1,4 @@
--- The numbers of codes, case by case, and what a call that is refused or accepted answers. Assumes nothing.
+-- The numbers of codes, case by case, and what a call that is accepted answers. Assumes nothing.
 use mathlib.Core.Path.{◌≡◌, refl, sym, ap, ◌∙◌}
 use mathlib.Core.List.{List}
 use Prim.Native.Nat.{ℕ, zero, suc, ◌<◌, ◌≤◌}
@@ -6,8 +6,8 @@ use native.Mathlib.Omega.{arith}
 use borrow.Author.Tests.{lt-ltb, le-ltb, eq-eqb, ne_eqb}
 use lib.Ieee.{Float}
 use lib.ListN.{length}
-use Rattle.refusal.specs.Outcome.{accepted, refused}
-use Rattle.refusal.proofs.Judged.{verdict, nothing, judged_accepted, judged_refused, kept_accepted, kept_refused}
+use Rattle.refusal.specs.Outcome.{accepted}
+use Rattle.refusal.proofs.Judged.{verdict, nothing, judged_accepted, kept_accepted}
 use Rattle.construction.specs.Codes.{block_length}
 use Rattle.staircase.specs.Codes.{code_of}
 use Rattle.softmath.specs.declared.DecodeRule.{DecodeRule}
@@ -41,16 +41,9 @@ pub ft8-at : (rule : DecodeRule) (llr : List Float) → decode_at 3 rule llr ≡
 unfolding checks_by kind_by
 ft8-at rule llr = refl
 
--- ---- refused and accepted calls
+-- ---- accepted calls
 
 module _ (s : Single) where
-  pub turned_down : (n : ℕ) → verdict s.refusals ≡ refused n → Answered s (refused n) s.bits s.work
-  turned_down n e = record {
-    tells = sym (judged_refused s.refusals _ n e);
-    its_bits = sym (kept_refused s.refusals s.bits _ n e);
-    its_work = sym (kept_refused s.refusals s.work _ n e);
-  }
-
   pub decoded : verdict s.refusals ≡ nothing → (r : Decoded) (bits : List ℕ) (work : List Float)
       → Chose s.decode s.limit s.size r bits → work ≡ cleared s.work → Answered s (accepted (told_by r)) bits work
   decoded e r bits work h z = record {
@@ -66,8 +59,8 @@ lengths-right n k llr bits work a b c = simp (eq-eqb (length llr) n a, eq-eqb (l
 
 -- and so are the numbers
 pub soft-right : (code rule : ℕ) (llr : List Float) (bits : List ℕ) (work : List Float) → code < 3 → rule < 4
-    → length llr ≡ block_length (code_of code) → length bits ≡ (code_of code).k → 3070 ≤ length work → verdict (soft_with_refusals code rule llr bits work)
-        ≡ nothing
+    → length llr ≡ block_length (code_of code) → length bits ≡ (code_of code).k → 3070 ≤ length work
+    → verdict (soft_with_refusals code rule llr bits work) ≡ nothing
 soft-right code rule llr bits work c r a b w =
     simp (lt-ltb code 3 c, le-ltb 4 rule (omega arith), ne_eqb rule 4 (λ e. omega arith))
     (lengths-right (block_length (code_of code)) (code_of code).k llr bits work a b w)
