@@ -21,7 +21,7 @@ bounds-loads-q c = below_row (ap found_of c.in-Row.is) c.requires.found_below
 
 pub returns-then-loads-r : goal.returns-then-loads-r
 unfolding FoundBelow
-returns-then-loads-r c = 
+returns-then-loads-r c =
     record { result_value = met_less _ _ _ c.if-marks-r-ne0.false _ (ap found_of c.in-Row.is) c.if-loads-r.true; found_below_2 = search rules }
 
 pub returns : goal.returns
