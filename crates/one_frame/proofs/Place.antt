@@ -1,7 +1,7 @@
 -- One frame: its answer by its code, and its places: by cases of the code's number, and by the laws of parts of lists. Assumes nothing.
 use mathlib.Core.Path.{◌≡◌, refl}
 use mathlib.Core.List.{List, ◌++◌}
-use Prim.Native.Nat.{ℕ, zero, suc, ◌+◌, ◌*◌, ◌-◌}
+use Prim.Native.Nat.{ℕ, zero, suc, ◌+◌, ◌*◌, ◌-◌, ◌≤◌}
 use native.Mathlib.Omega.{arith}
 use lib.Ieee.{Float}
 use lib.ListN.{take, drop}
@@ -37,6 +37,10 @@ pub part_placed : {A : Type 0} (l : List A) (j : ℕ) {k size : ℕ} {part own :
 part_placed l j {size = size} e o =
     let s : j * size + size - j * size ≡ size = omega arith in
     rw (e, o, s, drop-drop size (j * size) l)
+
+-- and there is room for it
+pub room_is : (j : ℕ) {k size most : ℕ} → k ≡ size → j * size + size ≤ most → j * k + k ≤ most
+room_is j e h = rw e h
 
 -- the values from an offset on, as a part of the slice
 pub part_frame : (values : List Float) (offset : ℕ) {n size : ℕ} → n ≡ size
