@@ -26,7 +26,8 @@ rows_from k width first n table =
     let e : first + n - first ≡ n = omega arith in
     rw e
 
-rows_append : (k width : ℕ) (table : List ℕ) (i a b : ℕ) → stair_rows k width table i (a + b) ≡ stair_rows k width table i a ++ stair_rows k width table (i + a) b
+rows_append : (k width : ℕ) (table : List ℕ) (i a b : ℕ) → stair_rows k width table i (a + b)
+    ≡ stair_rows k width table i a ++ stair_rows k width table (i + a) b
 unfolding stair_rows
 rows_append k width table i zero b =
     let e : 0 + b ≡ b = omega arith in

@@ -67,7 +67,8 @@ module _ (m p : ℕ) where
       by false q = q
 
   row_edges : (r : List ℕ) (rs : Checks) (c : ℕ)
-      → map (slot_from m c (r ∷ rs)) (places p 0 (joined (r ∷ rs))) ≡ map (λ j. j * m + c) (places p 0 r) ++ map (slot_from m (suc c) rs) (places p 0 (joined rs))
+      → map (slot_from m c (r ∷ rs)) (places p 0 (joined (r ∷ rs)))
+      ≡ map (λ j. j * m + c) (places p 0 r) ++ map (slot_from m (suc c) rs) (places p 0 (joined rs))
   unfolding joined
   row_edges r rs c =
       let n : 0 + length r ≡ length r + 0 = omega arith in

@@ -10,7 +10,8 @@ use Rattle.batch_refusals.proofs.Pairs.{seen_from}
 use Rattle.batch_refusals.proofs.pairs_fault.Given as goal
 
 abbrev pub invariant-loop-i : goal.invariant-loop-i
-invariant-loop-i l = (l.i ≤ length l.pairs) × (seen_from l.n l.values (seen_of l.seen) (pairs_of (drop l.i l.pairs)) ≡ verdict (pair_refusals l.n l.values 0 (pairs_of l.pairs)))
+invariant-loop-i l = (l.i ≤ length l.pairs)
+    × (seen_from l.n l.values (seen_of l.seen) (pairs_of (drop l.i l.pairs)) ≡ verdict (pair_refusals l.n l.values 0 (pairs_of l.pairs)))
 
 abbrev pub decreases-loop-i : goal.decreases-loop-i
 decreases-loop-i l = length l.pairs - l.i

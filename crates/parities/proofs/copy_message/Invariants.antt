@@ -6,7 +6,8 @@ use lib.ListN.{length, take, drop}
 use Rattle.parities.proofs.copy_message.Given as goal
 
 abbrev pub invariant-loop-i : goal.invariant-loop-i
-invariant-loop-i l = (l.i ≤ length l.message) × ((length l.codeword ≡ length l.initial.codeword) × (l.codeword ≡ take l.i l.message ++ drop l.i l.initial.codeword))
+invariant-loop-i l = (l.i ≤ length l.message)
+    × ((length l.codeword ≡ length l.initial.codeword) × (l.codeword ≡ take l.i l.message ++ drop l.i l.initial.codeword))
 
 abbrev pub decreases-loop-i : goal.decreases-loop-i
 decreases-loop-i l = length l.message - l.i

@@ -8,7 +8,8 @@ use Rattle.stair_counts.specs.Apart.{rows_apart}
 use Rattle.stair_counts.proofs.count_apart.Given as goal
 
 abbrev pub invariant-loop-i : goal.invariant-loop-i
-invariant-loop-i l = (l.i ≤ l.m) × (l.found ≤ l.i) × (l.before ≡ bit_xor (bit_before l.k l.i l.word) (bit_before l.k l.i l.hard)) × (l.found + rows_apart l.k l.i (l.m - l.i) l.word l.hard ≡ rows_apart l.k 0 l.m l.word l.hard)
+invariant-loop-i l = (l.i ≤ l.m) × (l.found ≤ l.i) × (l.before ≡ bit_xor (bit_before l.k l.i l.word) (bit_before l.k l.i l.hard))
+    × (l.found + rows_apart l.k l.i (l.m - l.i) l.word l.hard ≡ rows_apart l.k 0 l.m l.word l.hard)
 
 abbrev pub decreases-loop-i : goal.decreases-loop-i
 decreases-loop-i l = l.m - l.i

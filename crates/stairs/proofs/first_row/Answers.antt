@@ -32,7 +32,8 @@ returns-then-sum-ne0 c = let x = c in
     let t = x in
     let l = t in
     let s = l.args in
-    first-here 1 _ _ _ _ _ _ _ (rows_more s.k s.width s.m s.taps.now l.loop-i.i t.loop-i-test.true) (row-xor _ _ _ _ _ _ _ _ x.loop-i.invariant.1 x.xor_at.ensures x.loop-i.invariant.2) l.loop-i.invariant.3
+    first-here 1 _ _ _ _ _ _ _ (rows_more s.k s.width s.m s.taps.now l.loop-i.i t.loop-i-test.true)
+    (row-xor _ _ _ _ _ _ _ _ x.loop-i.invariant.1 x.xor_at.ensures x.loop-i.invariant.2) l.loop-i.invariant.3
     c.if-sum-ne0.true
 
 pub loop-i-preserved : goal.loop-i-preserved
@@ -43,7 +44,8 @@ loop-i-preserved c = let x = c in
     let rows = rows_more s.k s.width s.m s.taps.now l.loop-i.i t.loop-i-test.true in
     let next = row_next s.width l.loop-i.i l.loop-i.a l.loop-i.invariant.1 in
     let own = before_more s.k l.loop-i.i s.bytes.now in
-    (search rules, next, own, first-later 1 _ _ _ _ _ _ _ rows (row-xor _ _ _ _ _ _ _ _ x.loop-i.invariant.1 x.xor_at.ensures x.loop-i.invariant.2) l.loop-i.invariant.3 c.if-sum-ne0.false)
+    let whole = row-xor _ _ _ _ _ _ _ _ x.loop-i.invariant.1 x.xor_at.ensures x.loop-i.invariant.2 in
+    (search rules, next, own, first-later 1 _ _ _ _ _ _ _ rows whole l.loop-i.invariant.3 c.if-sum-ne0.false)
 
 pub returns : goal.returns
 returns c = let l = c in
