@@ -8,12 +8,9 @@ use lib.Dec.{eqb}
 use lib.ListN.{length, get_or}
 use borrow.Author.Tests.{lt-ltb, le-ltb, eq-eqb, ne_eqb}
 use Rattle.batch_input.specs.Input.{values_start, malformed}
-use borrow.Author.Rules.{rules}
-use Rattle.batch_input.proofs.is_malformed.Statement.{statement}
-use Rattle.batch_input.proofs.is_malformed.Tie as tie
+use Rattle.batch_input.proofs.is_malformed.Goals as goal
 
 -- ---- an input, condition by condition
-
 module _ (s : List ℕ) where
   too_long : 65536 < length s → true ≡ malformed s
   unfolding malformed
@@ -44,62 +41,30 @@ module _ (s : List ℕ) where
           simp (le-ltb 65536 (length s) a, le-ltb (length s) 12 b, eq-eqb (get_or s 10 0) 0 d, eq-eqb (get_or s 11 0) 0 e, le-ltb (length s) (values_start s) h)
 
 -- ---- the branches
+pub returns-then-input-gt65536 : goal.returns-then-input-gt65536
+returns-then-input-gt65536 c = too_long _ c.if-input-gt65536.true
 
-returns : tie.Need-returns
-returns c = too_long _ c.if1.true
+pub returns-then-input-lt12 : goal.returns-then-input-lt12
+returns-then-input-lt12 c = header-cut _ c.if-input-gt65536.false c.if-input-lt12.true
 
-returns-2 : tie.Need-returns-2
-returns-2 c = header-cut _ c.before.if1.false c.if2.true
+pub returns-then-input-ne0 : goal.returns-then-input-ne0
+returns-then-input-ne0 c = let long = c in
+    first-filler _ long.if-input-gt65536.false long.if-input-lt12.false c.if-input-ne0.true
 
-shared-slice-read-if3 : tie.Need-shared-slice-read-if3
-shared-slice-read-if3 c = search rules
+pub returns-then-input-ne0-2 : goal.returns-then-input-ne0-2
+returns-then-input-ne0-2 c = let first = c in
+    let long = first in
+    second-filler _ long.if-input-gt65536.false long.if-input-lt12.false first.if-input-ne0.false c.if-input-ne0-2.true
 
-returns-3 : tie.Need-returns-3
-returns-3 c =
-    let long = c.before.before in
-    first-filler _ long.before.if1.false long.if2.false c.if3.true
+pub returns-then-input-start : goal.returns-then-input-start
+returns-then-input-start c = let second = c in
+    let first = second in
+    let long = first in
+    pairs-cut _ long.if-input-gt65536.false long.if-input-lt12.false first.if-input-ne0.false second.if-input-ne0-2.false (rw c.values_start-start.ensures at c.if-input-start.true)
 
-shared-slice-read-if4 : tie.Need-shared-slice-read-if4
-shared-slice-read-if4 c = search rules
-
-returns-4 : tie.Need-returns-4
-returns-4 c =
-    let first = c.before.before in
-    let long = first.before.before in
-    second-filler _ long.before.if1.false long.if2.false first.if3.false c.if4.true
-
-values-start-requires : tie.Need-values-start-requires
-values-start-requires c κs = search rules
-
-returns-5 : tie.Need-returns-5
-returns-5 c =
-    let second = c.before.before in
-    let first = second.before.before in
-    let long = first.before.before in
-    pairs-cut _ long.before.if1.false long.if2.false first.if3.false second.if4.false (rw c.before.values-start.ensures at c.if5.true)
-
-sub-result : tie.Need-overflow-sub-result
-sub-result c = search rules
-
-returns-6 : tie.Need-returns-6
-returns-6 c =
-    let second = c.before.before in
-    let first = second.before.before in
-    let long = first.before.before in
-    let start = c.before.values-start.ensures in
-    rw start (value-cut _ long.before.if1.false long.if2.false first.if3.false second.if4.false (rw start at c.if5.false))
-
-pub is-malformed-spec : {M : Type 1} → statement M
-is-malformed-spec =
-    tie.close
-    (tie.spec
-    returns
-    returns-2
-    shared-slice-read-if3
-    returns-3
-    shared-slice-read-if4
-    returns-4
-    values-start-requires
-    returns-5
-    sub-result
-    returns-6)
+pub returns : goal.returns
+returns c = let second = c in
+    let first = second in
+    let long = first in
+    let start = c.values_start-start.ensures in
+    rw start (value-cut _ long.if-input-gt65536.false long.if-input-lt12.false first.if-input-ne0.false second.if-input-ne0-2.false (rw start at c.if-input-start.false))
