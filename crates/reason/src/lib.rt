@@ -13,7 +13,7 @@ use refusal::Refusal;
 use work_area::WORK;
 
 // The answer of a call that explains.
-#[derive(Drop)]
+#[derive(Clone, Copy)]
 pub enum Explained {
     Because(Reason),
     Refused(Refusal),
