@@ -110,7 +110,8 @@ module _ (values : List Float) (pairs : List ℕ) (n j : ℕ) (w : AllWithin n (
   pub frame-inside : offset + n ≤ length values
   frame-inside = omega (arith, offset-is, offset-inside values (pairs_of pairs) n j w h)
 
-  pub frames-next : drop j (frames_of values (pairs_of pairs)) ≡ take (offset + n - offset) (drop offset values) ∷ drop (j + 1) (frames_of values (pairs_of pairs))
+  pub frames-next : drop j (frames_of values (pairs_of pairs))
+      ≡ take (offset + n - offset) (drop offset values) ∷ drop (j + 1) (frames_of values (pairs_of pairs))
   frames-next = rw (part_frame values offset {n = n} refl, ← offset-is) (own-next values (pairs_of pairs) n j w h)
 
 -- after the last frame

@@ -37,7 +37,8 @@ module _ (x j k : ℕ) (e : j + k ≡ 7) where
       ∙ sym (xor_shifted (x / 2 ^ k % 2) 13 (x % 2 ^ k * 2 ^ (6 + j)) rest_lt)
 
   -- a turn takes that one in and moves the rest up
-  turned : (q : ℕ) → low_turn (bit_xor q (x % 2 ^ (1 + k) * 2 ^ (6 + j))) ≡ bit_xor (low_turn (bit_xor q (x / 2 ^ k % 2 * 2 ^ 13))) (x % 2 ^ k * 2 ^ (6 + j) * 2)
+  turned : (q : ℕ) → low_turn (bit_xor q (x % 2 ^ (1 + k) * 2 ^ (6 + j)))
+      ≡ bit_xor (low_turn (bit_xor q (x / 2 ^ k % 2 * 2 ^ 13))) (x % 2 ^ k * 2 ^ (6 + j) * 2)
   turned q =
       ap (λ (n : ℕ). low_turn (bit_xor q n)) top-and-rest
       ∙ ap low_turn (sym (xor_assoc q (x / 2 ^ k % 2 * 2 ^ 13) (x % 2 ^ k * 2 ^ (6 + j))))

@@ -1,7 +1,8 @@
 -- The greatest common divisor and the lowest terms: Euclid's division keeps the common divisors, so what is left divides both and is divided by each of them.
 use mathlib.Core.Path.{◌≡◌, refl, sym, ap, ◌∙◌}
 use Prim.Native.Nat.{ℕ, zero, suc, ◌*◌, ◌/◌, ◌%◌, ◌≤◌, ◌<◌, ◌∣◌}
-use native.Mathlib.Nat.{mod-lt, mul_comm, mul_left_comm, one-mul, div-mul_cancel, div_self, div-eq_of_lt, mod-eq_of_lt, dvd_refl, dvd-zero, dvd-mod_iff, pos_of_dvd_of_pos, mul-dvd-mul_right, dvd_of_mul-dvd-mul_right, eq-one_of_dvd-one}
+use native.Mathlib.Nat.{mod-lt, mul_comm, mul_left_comm, one-mul, div-mul_cancel, div_self, div-eq_of_lt, mod-eq_of_lt, dvd_refl, dvd-zero, dvd-mod_iff}
+use native.Mathlib.Nat.{pos_of_dvd_of_pos, mul-dvd-mul_right, dvd_of_mul-dvd-mul_right, eq-one_of_dvd-one}
 use native.Mathlib.Omega.{arith}
 use Rattle.figures.specs.Fraction.{gcd_within, gcd, lowest}
 

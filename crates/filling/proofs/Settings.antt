@@ -64,7 +64,8 @@ unfolding unknowns
 head_unknown [] w p us e = let z : ◌≡◌ {A = ℕ} 0 1 = cc in absurd (omega arith)
 head_unknown (q ∷ qs) w p us e = by (eqb (get_or w q 0) 2) refl (head_unknown qs w p us) e
   where
-    by : (t : Bool) → eqb (get_or w q 0) 2 ≡ t → (unknowns qs w ≡ p ∷ us → get_or w p 0 ≡ 2) → cond t (q ∷ unknowns qs w) (unknowns qs w) ≡ p ∷ us → get_or w p 0 ≡ 2
+    by : (t : Bool) → eqb (get_or w q 0) 2 ≡ t → (unknowns qs w ≡ p ∷ us → get_or w p 0 ≡ 2)
+        → cond t (q ∷ unknowns qs w) (unknowns qs w) ≡ p ∷ us → get_or w p 0 ≡ 2
     by true f ih e = let same : q ≡ p = cc in rw same at (eqb-true (get_or w q 0) 2 f)
     by false f ih e = ih e
 

@@ -110,8 +110,8 @@ module _ (c : List ℕ) (w : Word) (i n a odd : ℕ) (h : length c ≤ i) (s : S
 -- ---- the lowest-numbered check
 
 module _ (s f : List ℕ) (w : Word) (c : ℕ) {z : Setting} (inv : lowest (rows_from s c f) w ≡ z) where
-  pub lowest-found : {x : Setting} (p b : ℕ) → c + 1 < length s → x ≡ setting_in (take (get_or s (c + 1) 0 - get_or s c 0) (drop (get_or s c 0) f)) w → x ≡ at p b
-      → at p b ≡ z
+  pub lowest-found : {x : Setting} (p b : ℕ) → c + 1 < length s → x ≡ setting_in (take (get_or s (c + 1) 0 - get_or s c 0) (drop (get_or s c 0) f)) w
+      → x ≡ at p b → at p b ≡ z
   unfolding lowest
   lowest-found p b h e t = rw (rows_more s f c h, sym e ∙ t) at inv
 

@@ -97,7 +97,8 @@ least_factor = refl
 
 -- ---- why the answer of (174,91)'s rule asks for a product below the pole: 14 factors pass the pole of the `atanh`, and the sign turns
 
-pub past_pole : (negative (ft8_answer (repeat 14 large [])) ≡ false) × (not (unlike (odd_negatives (repeat 14 large [])) (odd_length (repeat 14 large []))) ≡ true)
+pub past_pole : (negative (ft8_answer (repeat 14 large [])) ≡ false)
+    × (not (unlike (odd_negatives (repeat 14 large [])) (odd_length (repeat 14 large []))) ≡ true)
 unfolding repeat fold_from oddly tanh atanh div mul add sum neg lt of_bits
 past_pole = (refl, refl)
 

@@ -225,7 +225,8 @@ turned (m ∷ ms) = rw (turned ms) (turn (negative m) (odd_negatives ms) (odd_le
 
 pub negated_sign : (ms : List Float) → NoneNan ms → Nonzero (product (map negated_half_tanh ms))
     → negative (product (map negated_half_tanh ms)) ≡ unlike (odd_negatives ms) (odd_length ms)
-negated_sign ms ps h = compared (oddly not_negative ms) (product (map negated_half_tanh ms)) (outcome negated_half_tanh not_negative negated_law ms ps) h ∙ turned ms
+negated_sign ms ps h =
+    compared (oddly not_negative ms) (product (map negated_half_tanh ms)) (outcome negated_half_tanh not_negative negated_law ms ps) h ∙ turned ms
 
 -- ---- up to 25 messages, neither product is a NaN
 

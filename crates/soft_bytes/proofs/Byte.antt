@@ -1,5 +1,6 @@
 -- A signed byte and its bits: which are those of 0 and of -128, and that a value's byte and its negative are in range. By cases on the sign. Assumes nothing.
-use Rattle.std.proofs.Common.{◌≡◌, ℕ, zero, suc, ◌-◌, ◌≤◌, Bool, true, false, not, ℤ, pos, negsuc, ◌-ℤ◌, neg_ℤ, sym, refl, ap, ◌∙◌, subst, arith, w8, SFits, to_z, of_z, eq-eqb, ne_eqb}
+use Rattle.std.proofs.Common.{◌≡◌, ℕ, zero, suc, ◌-◌, ◌≤◌, Bool, true, false, not, ℤ, pos, negsuc, ◌-ℤ◌, neg_ℤ, sym, refl, ap, ◌∙◌, subst, arith, w8, SFits}
+use Rattle.std.proofs.Common.{to_z, of_z, eq-eqb, ne_eqb}
 use lib.IntN.{+ℤ_idl}
 use lib.Ieee.{Float, binary32, mul, to_signed}
 use mir.ValLaws.{to_z-of_z}

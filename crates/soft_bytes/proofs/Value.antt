@@ -1,6 +1,9 @@
 -- A float that is n eighths, with its sign: `HasValue x s n 8`. Which floats are, and what the code's operations make of them: by cross-multiplication,
 -- and by the library's `round_exact`, since a byte over eight needs no more digits than an f32 has. Assumes nothing.
-use Rattle.std.proofs.Common.{◌≡◌, ℕ, zero, suc, ◌+◌, ◌*◌, ◌/◌, ◌%◌, ◌^◌, ◌<◌, ◌≤◌, Bool, true, false, not, ◌&&◌, ◌||◌, T, eqb, leb, ℤ, pos, sym, refl, ap, ◌∙◌, subst, true≢false, lt_of_lt_of_le, add-zero, zero-lt-suc, mul_assoc, mul-lt-mul_of_pos_right, mul-pos, div-add-mod', zero-mul, mul-one, mul_right_comm, mul-div_cancel, arith, lit≤, le→leb, eqb→eq, lt→ltb, leb→le, pow_mono, shl_lt, ltb-false, ltb-true, le-ltb}
+use Rattle.std.proofs.Common.{◌≡◌, ℕ, zero, suc, ◌+◌, ◌*◌, ◌/◌, ◌%◌, ◌^◌, ◌<◌, ◌≤◌, Bool, true, false, not, ◌&&◌, ◌||◌, T, eqb, leb, ℤ, pos, sym, refl, ap}
+use Rattle.std.proofs.Common.{◌∙◌, subst, true≢false, lt_of_lt_of_le, add-zero, zero-lt-suc, mul_assoc, mul-lt-mul_of_pos_right, mul-pos, div-add-mod'}
+use Rattle.std.proofs.Common.{zero-mul, mul-one, mul_right_comm, mul-div_cancel, arith, lit≤, le→leb, eqb→eq, lt→ltb, leb→le, pow_mono, shl_lt, ltb-false}
+use Rattle.std.proofs.Common.{ltb-true, le-ltb}
 use native.Mathlib.Nat.{mul-mod_left, eq_of_mul-eq-mul_right}
 use mathlib.Core.Bool.{beq}
 use lib.Dec.{eqb-suc-zero, not_T}

@@ -6,7 +6,8 @@ use Rattle.eighths.specs.Calls.{values_of}
 use Rattle.eighths.proofs.write_values.Given as goal
 
 abbrev pub invariant-loop-i : goal.invariant-loop-i
-invariant-loop-i l = (l.i ≤ length l.values) × (length l.values ≡ length l.initial.values) × (take l.i l.values ≡ take l.i (values_of l.positive_is_one l.bytes))
+invariant-loop-i l = (l.i ≤ length l.values) × (length l.values ≡ length l.initial.values)
+    × (take l.i l.values ≡ take l.i (values_of l.positive_is_one l.bytes))
 
 abbrev pub decreases-loop-i : goal.decreases-loop-i
 decreases-loop-i l = length l.initial.values - l.i
