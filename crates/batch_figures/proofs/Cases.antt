@@ -31,16 +31,19 @@ total : ℕ → ℕ → ℕ → ℕ → Totals
 total frames clean counts rounds = record { frames = frames; clean = clean; counts = counts; rounds = rounds }
 
 its_frames : batch_frames (three (0 ∷ 20 ∷ 3 ∷ [])) ≡ frame 0 0 true ∷ frame 5 20 false ∷ frame 0 3 false ∷ []
-unfolding three one frame batch_frames frames_from frame_of frame_clean any_nan is_nan checksum_right low_bits qex divide bring_down number_after size_k of_bits of_fields
+unfolding three one frame batch_frames frames_from frame_of frame_clean any_nan is_nan checksum_right low_bits qex divide bring_down number_after
+    size_k of_bits of_fields
 its_frames = refl
 
 its_total : added nothing_yet (three (0 ∷ 20 ∷ 3 ∷ [])) ≡ accepted (total 3 1 5 23)
-unfolding three one total batch_frames frames_from frame_of frame_clean any_nan is_nan checksum_right low_bits qex divide bring_down number_after size_n size_k of_bits
+unfolding three one total batch_frames frames_from frame_of frame_clean any_nan is_nan checksum_right low_bits qex divide bring_down number_after
+    size_n size_k of_bits
     of_fields totals_of result_refusals pair_refusals
 its_total = refl
 
 -- a total near its limit, and an output that is a place short
 refusals : (added (total 0 0 0 18446744073709551593) (three (0 ∷ 20 ∷ 3 ∷ [])) ≡ refused 14) × (added nothing_yet (three (0 ∷ 20 ∷ [])) ≡ refused 8)
-unfolding three one total batch_frames frames_from frame_of frame_clean any_nan is_nan checksum_right low_bits qex divide bring_down number_after size_n size_k of_bits
+unfolding three one total batch_frames frames_from frame_of frame_clean any_nan is_nan checksum_right low_bits qex divide bring_down number_after
+    size_n size_k of_bits
     of_fields totals_of result_refusals pair_refusals
 refusals = (refl, refl)

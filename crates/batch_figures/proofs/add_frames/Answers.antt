@@ -54,8 +54,8 @@ loop-j-preserved c =
     let many = length (pairs_of a.pairs.now) in
     let place : c.loop-j.j < many = omega (arith, c.loop-j-test.true, c.requires.counts_len.0) in
     let handed = results a.code a.values.now (pairs_of a.pairs.now) a.bits.now a.counts.now a.rounds.now in
-    let same : ◌≡◌ {A = Frame} (record { count = get_or handed.counts c.loop-j.j 0; rounds = get_or handed.rounds c.loop-j.j 0; clean = c.clean_at-clean.result })
-    (frame_at handed c.loop-j.j) = rw c.clean_at-clean.ensures in
+    let added : Frame = record { count = get_or handed.counts c.loop-j.j 0; rounds = get_or handed.rounds c.loop-j.j 0; clean = c.clean_at-clean.result } in
+    let same : ◌≡◌ {A = Frame} added (frame_at handed c.loop-j.j) = rw c.clean_at-clean.ensures in
     let rest = frames_from (frame_at handed) (c.loop-j.j + 1) (many - (c.loop-j.j + 1)) in
     let one = c.with_frame-sum.ensures ∙ ap (with_frame (summed_of c.loop-j.sum)) same in
     let more = rw (frames_more (frame_at handed) c.loop-j.j many place) at c.loop-j.invariant.1 in
