@@ -2,7 +2,7 @@
 use mathlib.Core.Path.{◌≡◌, sym, ◌∙◌}
 use mathlib.Core.Bool.{Bool, false}
 use mathlib.Core.List.{List}
-use Prim.Native.Nat.{ℕ}
+use Prim.Native.Nat.{ℕ, ◌<◌}
 use native.Mathlib.Nat.{zero-add}
 use native.Mathlib.Omega.{arith}
 use lib.ListN.{length, get_or, length-set}
@@ -30,10 +30,11 @@ loop-j-preserved c =
     let size : length whole ≡ many = clean-length ok 0 many in
     let place : ok now.j ≡ get_or whole now.j false =
     sym (rw zero-add at (clean_at ok 0 many now.j (omega (arith, now.invariant.1, c.loop-j-test.true)))) in
-    let right = ◌∙◌ {b = ok now.j} c.clean_at.ensures place in (
+    let right = ◌∙◌ {b = ok now.j} c.clean_at.ensures place in
+    let below : now.j < length whole = omega (arith, size, now.invariant.1, c.loop-j-test.true) in (
       omega (arith, now.invariant.1, c.loop-j-test.true),
       simp length-set (now.invariant.1),
-      fill_more whole false now.clean now.j _ (omega (arith, size, now.invariant.1, c.loop-j-test.true)) (omega (arith, c.loop-j-test.true)) right now.invariant.2,
+      fill_more whole false now.clean now.j _ below (omega (arith, c.loop-j-test.true)) right now.invariant.2,
     )
 
 pub returns : goal.returns
