@@ -18,9 +18,9 @@ decode-requires-clause-bits_len_bound c = omega (arith, c.if-bits-bits_of.false 
 pub returns : goal.returns
 returns c =
     let a = c.args in
-    let rule : a.rule < 4 = omega (arith, c.if-rule-gt4.false, c.if-rule-eq4.false) in
+    let rule : a.rule < 4 = omega arith in
     let values : length a.llr.now ≡ block_length (code_of a.code) = c.if-llr-values_of.false ∙ c.values_of.ensures in
     let places : length a.bits.now ≡ (code_of a.code).k = c.if-bits-bits_of.false ∙ c.bits_of.ensures in
-    let right = soft-right a.code a.rule a.llr.now a.bits.now a.work.now c.if-code-ge3.false rule values places c.if-work-lt-WORK.false in
+    let right = soft-right a.code a.rule a.llr.now a.bits.now a.work.now c.if-code-ge3.false rule values places (omega arith) in
     let chose = rw (staircase-at _ c.if-code-ge3.false _ _, c.staircase_rule.ensures, places) at c.decode.ensures.chose in
     decoded (soft_with a.code a.rule a.scale a.limit a.llr.now a.bits.now a.work.now) right _ _ _ chose c.decode.ensures.work_after
