@@ -1,0 +1,7 @@
+-- `desklink::desklink_decode_stored_batch_unguarded` meets its contract: the call beneath, its answer told as a number. Assumes nothing.
+use Rattle.coded.proofs.Signed.{read_back_lem}
+use Rattle.desklink.proofs.Told.{batch-told}
+use Rattle.desklink.proofs.desklink_decode_stored_batch_unguarded.Goals as goal
+
+pub returns : goal.returns
+returns c = batch-told _ c.decode_stored_batch.ensures c.status_code.ensures (read_back_lem (record { sfits = c.status_code.type_inv }))

@@ -1,0 +1,7 @@
+-- `desklink::totals::desklink_totals_add_unguarded` meets its contract: the answer of the call beneath, told as numbers. Assumes nothing.
+use Rattle.coded.proofs.Signed.{read_back_lem}
+use Rattle.desklink.proofs.Figures.{writes_told}
+use Rattle.desklink.proofs.totals.desklink_totals_add_unguarded.Goals as goal
+
+pub returns : goal.returns
+returns c = writes_told c.add_batch-sum.ensures c.summed_code.ensures (read_back_lem (record { sfits = c.summed_code.type_inv }))
