@@ -1,5 +1,7 @@
 -- `reason::frame_reason` meets its contract: each refusal by its test, and the reason. Assumes nothing.
 use mathlib.Core.Path.{sym, ◌∙◌}
+use Prim.Native.Nat.{◌≤◌}
+use native.Mathlib.Omega.{arith}
 use borrow.Author.Tests.{lt-ltb, le-ltb, eq-eqb, ne_eqb}
 use Rattle.reason.specs.Calls.{asked, refusals}
 use Rattle.reason.proofs.Answers.{turned_down, explained, all_right}
@@ -23,47 +25,52 @@ pub returns-then-rule_not_of_code : goal.returns-then-rule_not_of_code
 unfolding refusals
 returns-then-rule_not_of_code c =
     let a = c.args in
+    let rule : a.rule ≤ 4 = omega arith in
     let call = asked a.code a.rule a.scale a.limit a.values.now a.word.now a.work.now in
     let other = sym c.rule_not_of_code.ensures ∙ c.if-rule_not_of_code.true in
-    turned_down call 3 (simp (le-ltb _ _ c.if-code-gt3.false, le-ltb _ _ c.if-rule-gt4.false, other))
+    turned_down call 3 (simp (le-ltb _ _ c.if-code-gt3.false, le-ltb _ _ rule, other))
 
 pub returns-then-values-n : goal.returns-then-values-n
 unfolding refusals
 returns-then-values-n c =
     let a = c.args in
+    let rule : a.rule ≤ 4 = omega arith in
     let call = asked a.code a.rule a.scale a.limit a.values.now a.word.now a.work.now in
     let own = sym c.rule_not_of_code.ensures ∙ c.if-rule_not_of_code.false in
     let wrong = ne_eqb _ _ (λ e. c.if-values-n.true (e ∙ sym c.frame_values-n.ensures)) in
-    turned_down call 4 (simp (le-ltb _ _ c.if-code-gt3.false, le-ltb _ _ c.if-rule-gt4.false, own, wrong))
+    turned_down call 4 (simp (le-ltb _ _ c.if-code-gt3.false, le-ltb _ _ rule, own, wrong))
 
 pub returns-then-word-n : goal.returns-then-word-n
 unfolding refusals
 returns-then-word-n c =
     let a = c.args in
+    let rule : a.rule ≤ 4 = omega arith in
     let call = asked a.code a.rule a.scale a.limit a.values.now a.word.now a.work.now in
     let own = sym c.rule_not_of_code.ensures ∙ c.if-rule_not_of_code.false in
     let values = eq-eqb _ _ (c.if-values-n.false ∙ c.frame_values-n.ensures) in
     let wrong = ne_eqb _ _ (λ e. c.if-word-n.true (e ∙ sym c.frame_values-n.ensures)) in
-    turned_down call 8 (simp (le-ltb _ _ c.if-code-gt3.false, le-ltb _ _ c.if-rule-gt4.false, own, values, wrong))
+    turned_down call 8 (simp (le-ltb _ _ c.if-code-gt3.false, le-ltb _ _ rule, own, values, wrong))
 
 pub returns-then-work-lt-WORK : goal.returns-then-work-lt-WORK
 unfolding refusals
 returns-then-work-lt-WORK c =
     let a = c.args in
+    let rule : a.rule ≤ 4 = omega arith in
     let call = asked a.code a.rule a.scale a.limit a.values.now a.word.now a.work.now in
     let own = sym c.rule_not_of_code.ensures ∙ c.if-rule_not_of_code.false in
     let values = eq-eqb _ _ (c.if-values-n.false ∙ c.frame_values-n.ensures) in
     let word = eq-eqb _ _ (c.if-word-n.false ∙ c.frame_values-n.ensures) in
     turned_down call 9
-    (simp (le-ltb _ _ c.if-code-gt3.false, le-ltb _ _ c.if-rule-gt4.false, own, values, word, lt-ltb _ _ c.if-work-lt-WORK.true))
+    (simp (le-ltb _ _ c.if-code-gt3.false, le-ltb _ _ rule, own, values, word, lt-ltb _ _ c.if-work-lt-WORK.true))
 
 pub returns : goal.returns
 returns c =
     let a = c.args in
+    let rule : a.rule ≤ 4 = omega arith in
     let call = asked a.code a.rule a.scale a.limit a.values.now a.word.now a.work.now in
     let own = sym c.rule_not_of_code.ensures ∙ c.if-rule_not_of_code.false in
     let values = c.if-values-n.false ∙ c.frame_values-n.ensures in
     let word = c.if-word-n.false ∙ c.frame_values-n.ensures in
-    let right = all_right call c.if-code-gt3.false c.if-rule-gt4.false own values word c.if-work-lt-WORK.false in
+    let right = all_right call c.if-code-gt3.false rule own values word c.if-work-lt-WORK.false in
     let e = c.find_reason.ensures in
     explained call right _ _ _ e.value e.word_after e.work_after

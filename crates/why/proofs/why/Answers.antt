@@ -1,6 +1,8 @@
 -- `why::why` meets its contract. A cut place and a malformed batch are refused before all else. Assumes nothing.
 use mathlib.Core.Path.{sym, ap, ap₂, ◌∙◌}
+use Prim.Native.Nat.{◌≤◌}
 use native.Mathlib.Omega.{arith}
+use lib.ListN.{length}
 use Rattle.text.proofs.Lengths.{refusal_short}
 use Rattle.batch_input.specs.Input.{malformed}
 use Rattle.why.specs.Why.{asked_line}
@@ -23,7 +25,8 @@ returns-then-is_malformed c =
     let input = c.args.input.now in
     let tested = c.is_malformed.ensures ∙ ap malformed (rest-is input) in
     let wrote = c.refusal_line-then-is_malformed.ensures in
-    let line = malformed-line input c.if-input-lt2.false (sym tested ∙ c.if-is_malformed.true) in
+    let long : 2 ≤ length input = omega arith in
+    let line = malformed-line input long (sym tested ∙ c.if-is_malformed.true) in
     record { written = rw line at wrote; upper_bound = omega (arith, wrote.end, refusal_short 13) }
 
 pub why_input-requires : goal.why_input-requires
@@ -33,5 +36,6 @@ pub returns : goal.returns
 returns c =
     let input = c.args.input.now in
     let tested = c.is_malformed.ensures ∙ ap malformed (rest-is input) in
-    let asked = ap₂ asked_line c.u16_at-place.ensures (rest-is input) ∙ asked-why input c.if-input-lt2.false (sym tested ∙ c.if-is_malformed.false) in
+    let long : 2 ≤ length input = omega arith in
+    let asked = ap₂ asked_line c.u16_at-place.ensures (rest-is input) ∙ asked-why input long (sym tested ∙ c.if-is_malformed.false) in
     record { written = rw asked at c.why_input.ensures.written; upper_bound = c.why_input.ensures.upper_bound }
