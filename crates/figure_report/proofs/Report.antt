@@ -78,7 +78,8 @@ one_counted t (bytes s) = by (input_added t s) refl
     by (refused k) e = sym (nothing-added t)
 one_counted t unread = sym (nothing-added t)
 
-report-from : (place : ℕ) (t : Totals) (fs : List File) → report_from place t fs ≡ lines_from place t fs ++ totals_line (sums t (totals_of (frames_counted t fs)))
+report-from : (place : ℕ) (t : Totals) (fs : List File) → report_from place t fs
+    ≡ lines_from place t fs ++ totals_line (sums t (totals_of (frames_counted t fs)))
 unfolding report_from lines_from frames_counted totals_of
 report-from place t [] = ap totals_line (sym (nothing-added t))
 report-from place t (f ∷ fs) =

@@ -31,9 +31,11 @@ sample code =
     ∷ joined (replicate 174 (0 ∷ 0 ∷ 0x80 ∷ 0x3f ∷ []))
 
 one_clean : input_added nothing_yet (sample 3) ≡ accepted (record { frames = 1; clean = 1; counts = 0; rounds = 0 })
-unfolding input_added sample joined batch_frames frames_from totals_of frame_clean any_nan is_nan checksum_right low_bits qex divide bring_down number_after pair_numbers
+unfolding input_added sample joined batch_frames frames_from totals_of frame_clean any_nan is_nan checksum_right low_bits qex divide bring_down
+    number_after pair_numbers
     values_of float_of u32s_from malformed size_n size_k refusals_of pair_refusals pairs_of
-    frame_of written decode_by chosen chosen_count chosen_first chosen_bits chosen_from initial_word round_words rounds_run first_by parity count checks rows_of_seven nm
+    frame_of written decode_by chosen chosen_count chosen_first chosen_bits chosen_from initial_word round_words rounds_run first_by parity count
+    checks rows_of_seven nm
     num_rows decide of_bits of_fields odd le lt eq rule_not_of_code
 one_clean = refl
 

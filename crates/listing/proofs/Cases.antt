@@ -35,9 +35,12 @@ pub sample_listing : listing_of sample ≡
     99 ∷ 111 ∷ 100 ∷ 101 ∷ 32 ∷ 51 ∷ 32 ∷ 114 ∷ 117 ∷ 108 ∷ 101 ∷ 32 ∷ 48 ∷ 32 ∷ 108 ∷ 105 ∷ 109 ∷ 105 ∷ 116 ∷ 32 ∷ 50 ∷ 48 ∷ 32 ∷ 102 ∷
     114 ∷ 97 ∷ 109 ∷ 101 ∷ 115 ∷ 32 ∷ 49 ∷ 10 ∷ 48 ∷ 32 ∷ 48 ∷ 32 ∷ 48 ∷ 32 ∷ 99 ∷ 108 ∷ 101 ∷ 97 ∷ 110 ∷ 32 ∷ 48 ∷ 48 ∷ 48 ∷ 48 ∷
     48 ∷ 48 ∷ 48 ∷ 48 ∷ 48 ∷ 48 ∷ 48 ∷ 48 ∷ 48 ∷ 48 ∷ 48 ∷ 48 ∷ 48 ∷ 48 ∷ 48 ∷ 48 ∷ 48 ∷ 48 ∷ 48 ∷ 48 ∷ 10 ∷ []
-unfolding sample joined listing_of frames_text head_line field decimal leading lines_from frame_line clean_or_open first_field frame_clean any_nan is_nan checksum_right
-    low_bits qex divide bring_down number_after hex hex_from hex_digit byte_at pair_numbers values_of float_of u32s_from malformed size_n size_k refusals_of pair_refusals
-    pairs_of frame_of written decode_by chosen chosen_count chosen_first chosen_bits chosen_from initial_word round_words rounds_run first_by parity count checks
+unfolding sample joined listing_of frames_text head_line field decimal leading lines_from frame_line clean_or_open first_field frame_clean any_nan
+    is_nan checksum_right
+    low_bits qex divide bring_down number_after hex hex_from hex_digit byte_at pair_numbers values_of float_of u32s_from malformed size_n size_k
+    refusals_of pair_refusals
+    pairs_of frame_of written decode_by chosen chosen_count chosen_first chosen_bits chosen_from initial_word round_words rounds_run first_by parity
+    count checks
     rows_of_seven nm num_rows decide of_bits of_fields odd le lt eq rule_not_of_code
 sample_listing = refl
 

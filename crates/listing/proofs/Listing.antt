@@ -50,7 +50,8 @@ module _ (s : List ℕ) (good : malformed s ≡ false) where
   -- the lines of what the call was handed and left are the listing, whatever is in the work area
   pub fronts-text : verdict (refusals (batch_in s)) ≡ nothing → {values : List Float} {pairs bits counts rounds firsts : List ℕ} → values ≡ values_of s
       → pairs ≡ pair_numbers s
-      → bits ≡ (written (batch_in s)).bits → counts ≡ (written (batch_in s)).counts → rounds ≡ (written (batch_in s)).rounds → firsts ≡ (written (batch_in s)).firsts
+      → bits ≡ (written (batch_in s)).bits → counts ≡ (written (batch_in s)).counts → rounds ≡ (written (batch_in s)).rounds → firsts
+      ≡ (written (batch_in s)).firsts
       → frames_text (batch (code_of s) (rule_of s) (limit_of s) (scale_of s) values (pairs_of pairs) (lent [] [] [] [] []))
       (lent bits counts rounds firsts []) ≡ listing_of s
   unfolding frames_text

@@ -61,7 +61,8 @@ module _ (s : List ℕ) where
       let b = batch_asked s in
       let found = clean_alone (checks_by b.code) (word_asked s) reason_asked (sym (line-is v) ∙ e) in
       (v, (clean-exactly b.code b.rule b.scale (values_asked s) b.limit).only found)
-  only-by (refused k) v e = absurd (refused_differs k (sym (ap printed (judged_refused (why_refusals s) (frame_line (batch_asked s) (values_asked s)) k v)) ∙ e))
+  only-by (refused k) v e = absurd (refused_differs k (sym (ap printed (judged_refused (why_refusals s) (frame_line (batch_asked s) (values_asked s)) k v))
+      ∙ e))
 
   pub clean-printed : CleanPrinted s
   clean-printed = record { only = only-by (verdict (why_refusals s)) refl; each = each }

@@ -60,11 +60,13 @@ pub returns-then-input-start : goal.returns-then-input-start
 returns-then-input-start c = let second = c in
     let first = second in
     let long = first in
-    pairs-cut _ long.if-input-gt65536.false long.if-input-lt12.false first.if-input-ne0.false second.if-input-ne0-2.false (rw c.values_start-start.ensures at c.if-input-start.true)
+    pairs-cut _ long.if-input-gt65536.false long.if-input-lt12.false first.if-input-ne0.false second.if-input-ne0-2.false
+    (rw c.values_start-start.ensures at c.if-input-start.true)
 
 pub returns : goal.returns
 returns c = let second = c in
     let first = second in
     let long = first in
     let start = c.values_start-start.ensures in
-    rw start (value-cut _ long.if-input-gt65536.false long.if-input-lt12.false first.if-input-ne0.false second.if-input-ne0-2.false (rw start at c.if-input-start.false))
+    rw start (value-cut _ long.if-input-gt65536.false long.if-input-lt12.false first.if-input-ne0.false second.if-input-ne0-2.false
+    (rw start at c.if-input-start.false))

@@ -100,32 +100,38 @@ bounds-input-0 c = omega (arith, (wellformed c.args.input.now c.requires.input_v
 
 pub overflow_mul-size : goal.overflow_mul-size
 overflow_mul-size c =
-    let fits = size_fits c.args.input.now c.frames_held-n.result c.message_bits.result (c.frames_held-n.ensures ∙ ap held c.pair_count.ensures.value) c.message_bits.ensures in
+    let fits = size_fits c.args.input.now c.frames_held-n.result c.message_bits.result (c.frames_held-n.ensures
+    ∙ ap held c.pair_count.ensures.value) c.message_bits.ensures in
     omega (arith, fits)
 
 pub slice_bounds-decode_input-end : goal.slice_bounds-decode_input-end
 slice_bounds-decode_input-end c =
-    let fits = size_fits c.args.input.now c.frames_held-n.result c.message_bits.result (c.frames_held-n.ensures ∙ ap held c.pair_count.ensures.value) c.message_bits.ensures in
+    let fits = size_fits c.args.input.now c.frames_held-n.result c.message_bits.result (c.frames_held-n.ensures
+    ∙ ap held c.pair_count.ensures.value) c.message_bits.ensures in
     omega (arith, fits, c.requires.in_bounds.0)
 
 pub slice_bounds-decode_input-end-2 : goal.slice_bounds-decode_input-end-2
 slice_bounds-decode_input-end-2 c =
-    let fits = size_fits c.args.input.now c.frames_held-n.result c.message_bits.result (c.frames_held-n.ensures ∙ ap held c.pair_count.ensures.value) c.message_bits.ensures in
+    let fits = size_fits c.args.input.now c.frames_held-n.result c.message_bits.result (c.frames_held-n.ensures
+    ∙ ap held c.pair_count.ensures.value) c.message_bits.ensures in
     part_length c.args.bits.now _ (omega (arith, fits, c.requires.in_bounds.0))
 
 pub slice_bounds-decode_input-end-3 : goal.slice_bounds-decode_input-end-3
 slice_bounds-decode_input-end-3 c =
-    let small = few c.args.input.now c.frames_held-n.result c.message_bits.result (c.frames_held-n.ensures ∙ ap held c.pair_count.ensures.value) c.message_bits.ensures in
+    let small = few c.args.input.now c.frames_held-n.result c.message_bits.result (c.frames_held-n.ensures
+    ∙ ap held c.pair_count.ensures.value) c.message_bits.ensures in
     omega (arith, small, c.requires.in_bounds.1)
 
 pub slice_bounds-decode_input-end-5 : goal.slice_bounds-decode_input-end-5
 slice_bounds-decode_input-end-5 c =
-    let small = few c.args.input.now c.frames_held-n.result c.message_bits.result (c.frames_held-n.ensures ∙ ap held c.pair_count.ensures.value) c.message_bits.ensures in
+    let small = few c.args.input.now c.frames_held-n.result c.message_bits.result (c.frames_held-n.ensures
+    ∙ ap held c.pair_count.ensures.value) c.message_bits.ensures in
     omega (arith, small, c.requires.in_bounds_2.0)
 
 pub slice_bounds-decode_input-end-7 : goal.slice_bounds-decode_input-end-7
 slice_bounds-decode_input-end-7 c =
-    let small = few c.args.input.now c.frames_held-n.result c.message_bits.result (c.frames_held-n.ensures ∙ ap held c.pair_count.ensures.value) c.message_bits.ensures in
+    let small = few c.args.input.now c.frames_held-n.result c.message_bits.result (c.frames_held-n.ensures
+    ∙ ap held c.pair_count.ensures.value) c.message_bits.ensures in
     omega (arith, small, c.requires.in_bounds_2.1)
 
 pub decode_input-requires : goal.decode_input-requires
@@ -143,13 +149,18 @@ returns-in-Refused c =
     let lent-parts = memory s n k n-is c.message_bits.ensures a.bits.now a.counts.now a.rounds.now a.firsts.now c.requires.in_bounds.0 c.requires.in_bounds.1
     c.requires.in_bounds_2.0 c.requires.in_bounds_2.1 in
     let over = batch (code_of s) (rule_of s) (limit_of s) (scale_of s) in
-    let answered = subst (λ (v : List Float). Answered (over v (pairs_of (take 50 (pair_numbers s))) lent-parts) o (lent left.bits left.counts left.rounds left.firsts left.work))
+    let answered = subst (λ (v : List Float). Answered (over v (pairs_of (take 50 (pair_numbers s))) lent-parts) o
+    (lent left.bits left.counts left.rounds left.firsts left.work))
     c.requires.values_value.0
-    (subst (λ (ns : List ℕ). Answered (over a.values.now (pairs_of ns) lent-parts) o (lent left.bits left.counts left.rounds left.firsts left.work)) c.requires.values_value.1
+    (subst (λ (ns : List ℕ). Answered (over a.values.now (pairs_of ns) lent-parts) o (lent left.bits left.counts left.rounds left.firsts left.work))
+    c.requires.values_value.1
     c.decode_input.ensures) in
     let turned = found s n k n-is c.message_bits.ensures a.bits.now a.counts.now a.rounds.now a.firsts.now c.requires.in_bounds.0 c.requires.in_bounds.1
     c.requires.in_bounds_2.0 c.requires.in_bounds_2.1 o left.bits left.counts left.rounds left.firsts left.work answered ∙ ap status_of c.in-Refused.is in
-    record { result_value = sym (judged_refused (refusals (batch_in s)) (sizes_of s) _ turned); fronts = λ e. let z : ◌≡◌ {A = ℕ} 0 1 = cc in absurd (omega arith) }
+    record {
+      result_value = sym (judged_refused (refusals (batch_in s)) (sizes_of s) _ turned);
+      fronts = λ e. let z : ◌≡◌ {A = ℕ} 0 1 = cc in absurd (omega arith);
+    }
 
 pub returns : goal.returns
 returns c =
@@ -163,9 +174,11 @@ returns c =
     let lent-parts = memory s n k n-is c.message_bits.ensures a.bits.now a.counts.now a.rounds.now a.firsts.now c.requires.in_bounds.0 c.requires.in_bounds.1
     c.requires.in_bounds_2.0 c.requires.in_bounds_2.1 in
     let over = batch (code_of s) (rule_of s) (limit_of s) (scale_of s) in
-    let answered = subst (λ (v : List Float). Answered (over v (pairs_of (take 50 (pair_numbers s))) lent-parts) o (lent left.bits left.counts left.rounds left.firsts left.work))
+    let answered = subst (λ (v : List Float). Answered (over v (pairs_of (take 50 (pair_numbers s))) lent-parts) o
+    (lent left.bits left.counts left.rounds left.firsts left.work))
     c.requires.values_value.0
-    (subst (λ (ns : List ℕ). Answered (over a.values.now (pairs_of ns) lent-parts) o (lent left.bits left.counts left.rounds left.firsts left.work)) c.requires.values_value.1
+    (subst (λ (ns : List ℕ). Answered (over a.values.now (pairs_of ns) lent-parts) o (lent left.bits left.counts left.rounds left.firsts left.work))
+    c.requires.values_value.1
     c.decode_input.ensures) in
     let ok : o ≡ nothing = ap status_of c.in_default.is in
     let turned = found s n k n-is c.message_bits.ensures a.bits.now a.counts.now a.rounds.now a.firsts.now c.requires.in_bounds.0 c.requires.in_bounds.1

@@ -6,4 +6,7 @@ use Rattle.desklink.proofs.desklink_encode.Goals as goal
 
 pub returns : goal.returns
 returns c = let done = c.encode.ensures in
-    record { value = read_back_lem (record { sfits = c.status_code.type_inv }) ∙ c.status_code.ensures ∙ ap coded_unit done.result_value; codeword_after = done.codeword_after }
+    record {
+      value = read_back_lem (record { sfits = c.status_code.type_inv }) ∙ c.status_code.ensures ∙ ap coded_unit done.result_value;
+      codeword_after = done.codeword_after;
+    }

@@ -13,4 +13,7 @@ listed_code-requires c = let start = c in
 
 pub returns : goal.returns
 returns c = let listed = c.list_cycles in
-    record { lists = list_told listed.ensures.result_value c.listed_code.ensures (read_back_lem (record { sfits = c.listed_code.type_inv })); places_after = listed.ensures.out_after }
+    record {
+      lists = list_told listed.ensures.result_value c.listed_code.ensures (read_back_lem (record { sfits = c.listed_code.type_inv }));
+      places_after = listed.ensures.out_after;
+    }

@@ -14,30 +14,35 @@ put_digits-a-requires c = digits-room _ _ _ (omega (arith, c.requires))
 
 pub put_byte-b-requires : goal.put_byte-b-requires
 put_byte-b-requires c =
-    let room1 : c.put_digits-a.result + 15 ≤ length c.put_digits-a.new.out = room_after _ 15 c.put_digits-a.ensures (digits_short _) (omega (arith, c.requires)) in
+    let room1 : c.put_digits-a.result + 15 ≤ length c.put_digits-a.new.out =
+    room_after _ 15 c.put_digits-a.ensures (digits_short _) (omega (arith, c.requires)) in
     omega (arith, room1)
 
 pub refusal_line-requires : goal.refusal_line-requires
 refusal_line-requires c =
-    let room1 : c.put_digits-a.result + 15 ≤ length c.put_digits-a.new.out = room_after _ 15 c.put_digits-a.ensures (digits_short _) (omega (arith, c.requires)) in
+    let room1 : c.put_digits-a.result + 15 ≤ length c.put_digits-a.new.out =
+    room_after _ 15 c.put_digits-a.ensures (digits_short _) (omega (arith, c.requires)) in
     let room2 : c.put_byte-b.result + 14 ≤ length c.put_byte-b.new.out = room_after 1 14 c.put_byte-b.ensures (omega arith) (omega (arith, room1)) in
     omega (arith, room2, refusal_short c.number.result)
 
 pub put_text-b-requires : goal.put_text-b-requires
 put_text-b-requires c =
-    let room1 : c.put_digits-a.result + 15 ≤ length c.put_digits-a.new.out = room_after _ 15 c.put_digits-a.ensures (digits_short _) (omega (arith, c.requires)) in
+    let room1 : c.put_digits-a.result + 15 ≤ length c.put_digits-a.new.out =
+    room_after _ 15 c.put_digits-a.ensures (digits_short _) (omega (arith, c.requires)) in
     omega (arith, room1)
 
 pub put_byte-requires : goal.put_byte-requires
 put_byte-requires c =
-    let room1 : c.put_digits-a.result + 15 ≤ length c.put_digits-a.new.out = room_after _ 15 c.put_digits-a.ensures (digits_short _) (omega (arith, c.requires)) in
+    let room1 : c.put_digits-a.result + 15 ≤ length c.put_digits-a.new.out =
+    room_after _ 15 c.put_digits-a.ensures (digits_short _) (omega (arith, c.requires)) in
     let room3 : c.put_text-b.result + 1 ≤ length c.put_text-b.new.out = room_after 11 1 c.put_text-b.ensures (omega arith) (omega (arith, room1)) in
     omega (arith, room3)
 
 pub returns-in-Refused : goal.returns-in-Refused
 unfolding refused_line
 returns-in-Refused c =
-    let room1 : c.put_digits-a.result + 15 ≤ length c.put_digits-a.new.out = room_after _ 15 c.put_digits-a.ensures (digits_short _) (omega (arith, c.requires)) in
+    let room1 : c.put_digits-a.result + 15 ≤ length c.put_digits-a.new.out =
+    room_after _ 15 c.put_digits-a.ensures (digits_short _) (omega (arith, c.requires)) in
     rw c.in-Refused.is
     (then c.put_digits-a.ensures (digits-room _ _ _ (omega (arith, c.requires)))
     (then c.put_byte-b.ensures (omega (arith, room1))
@@ -46,7 +51,8 @@ returns-in-Refused c =
 pub returns-in-Unreadable : goal.returns-in-Unreadable
 unfolding unreadable_line
 returns-in-Unreadable c =
-    let room1 : c.put_digits-a.result + 15 ≤ length c.put_digits-a.new.out = room_after _ 15 c.put_digits-a.ensures (digits_short _) (omega (arith, c.requires)) in
+    let room1 : c.put_digits-a.result + 15 ≤ length c.put_digits-a.new.out =
+    room_after _ 15 c.put_digits-a.ensures (digits_short _) (omega (arith, c.requires)) in
     rw c.in-Unreadable.is
     (then c.put_digits-a.ensures (digits-room _ _ _ (omega (arith, c.requires)))
     (then c.put_text-b.ensures (omega (arith, room1))

@@ -13,7 +13,8 @@ put_number-a-requires c = number-room _ _ _ _ (omega (arith, c.requires))
 -- after the first number there is room for the second
 pub put_number-requires : goal.put_number-requires
 put_number-requires c =
-    let under : c.put_number-a.result + 21 ≤ length c.put_number-a.new.out = room_after _ 21 c.put_number-a.ensures (number_short _ _) (omega (arith, c.requires)) in
+    let under : c.put_number-a.result + 21 ≤ length c.put_number-a.new.out =
+    room_after _ 21 c.put_number-a.ensures (number_short _ _) (omega (arith, c.requires)) in
     number-room _ _ _ _ (omega (arith, under))
 
 pub returns : goal.returns

@@ -79,7 +79,9 @@ frame_line-next-requires c =
     let l = lent a.bits.now a.counts.now a.rounds.now a.firsts.now [] in
     let fs = frames_of a.values.now (pairs_of a.pairs.now) in
     let place : j < n = omega (arith, c.requires.counts_len.0) in
-    let same = line-is a.code fs l j c.loop-j.from c.message_bits-k.result c.clean_at-clean.result c.loop-j.invariant.1 c.message_bits-k.ensures c.clean_at-clean.ensures in
+    let same =
+    line-is a.code fs l j c.loop-j.from c.message_bits-k.result c.clean_at-clean.result c.loop-j.invariant.1 c.message_bits-k.ensures
+    c.clean_at-clean.ensures in
     let free = fits a.code fs l n a.out.now a.at c.requires.pairs_in_bounds c.loop-j.out c.loop-j.next j place c.loop-j.invariant.2 in
     omega (arith, ap length same, free)
 
