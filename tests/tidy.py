@@ -18,7 +18,7 @@ def files():
     """Every file but those that a check makes."""
     found = []
     for folder, below, names in os.walk("."):
-        below[:] = [name for name in below if name not in (".git", "target", "__pycache__")]
+        below[:] = [name for name in below if name not in (".git", "target", "out", "__pycache__")]
         found += [os.path.relpath(os.path.join(folder, name)) for name in names]
     return found
 
