@@ -71,8 +71,8 @@ class Tables:
         k, m, n = self.k, self.m, self.n
         taps = [[p for p in range(k) if row in self.columns[p]] for row in range(m)]
         checks = [taps[i] + ([k] if i == 0 else [k + i, k + i - 1]) for i in range(m)]
-        self.checkBits = [p for check in checks for p in check]
-        self.checkStarts = ends(checks)
+        self.check_bits = [p for check in checks for p in check]
+        self.check_starts = ends(checks)
         self.widths = {len(row) for row in taps}
         self.rows = [row for column in self.columns for row in column]
         self.taps = [p for row in taps for p in row]
@@ -95,12 +95,15 @@ def ends(lists):
 # the lists, with the constant that holds each; the index is crate cycle_index's, the other constants are staircase's, and each code's lists its own crate's
 NAMES = {
     "rows": "ROWS",
-    "checkStarts": "CHECK_STARTS",
-    "checkBits": "CHECK_BITS",
+    "check_starts": "CHECK_STARTS",
+    "check_bits": "CHECK_BITS",
     "taps": "TAPS",
     "places": "EDGES",
     "index": "INDEX",
 }
+
+# How many of its constants and lists the repository has of each code: a name that is gone is not passed over.
+HELD = 11
 
 # ---- what is printed
 
@@ -154,7 +157,7 @@ def numbers(text):
 def check(tables):
     """Compares what the repository has of these tables, found from this script's place; how many differ."""
     crates = os.path.join(os.path.dirname(os.path.abspath(__file__)), "..", "crates")
-    wrong = 0
+    wrong = held = 0
     for folder in ["staircase/src"] + [code + "/proofs" for code in CODES] + ["cycle_index/src"]:
         for file in sorted(os.listdir(os.path.join(crates, folder))):
             if not file.endswith((".rt", ".antt")):
@@ -164,9 +167,13 @@ def check(tables):
             for head, body, _, pattern in printed(tables):
                 found = pattern.search(text)
                 if found:
+                    held += 1
                     same = numbers(found.group(1)) == numbers(body)
                     wrong += not same
                     print("%-9s %s/%s: %s" % ("same" if same else "DIFFERENT", folder, file, head.split()[-1]))
+    if held != HELD * len(CODES):
+        print("DIFFERENT %d constants and lists are there, and not %d" % (held, HELD * len(CODES)))
+        wrong += 1
     return wrong
 
 

@@ -47,8 +47,8 @@ def check_sets(rows):
     return [checks for _, checks in pairs]
 
 
-def head(what):
-    return what + "use mathlib.Core.List.{List, [], _∷_}\nuse Prim.Native.Nat.{ℕ}\n"
+SPECS = "use Rattle.std.specs.Prelude.{List, [], ◌∷◌, ℕ}\n"
+PROOFS = "use mathlib.Core.List.{List, [], ◌∷◌}\nuse Prim.Native.Nat.{ℕ}\n"
 
 
 def main():
@@ -79,10 +79,10 @@ def main():
         ("The checks of each of the 174 positions, three a position, counted from 1.", "MN", mn, 3, "%d"),
     ]
     graph = [
-        ("Where each check's positions start in CHECK_BITS, and the end of the last.", "CHECK_STARTS", check_start, "checkStart"),
-        ("The positions of each check, counted from 0: one for each of the 522 edges.", "CHECK_BITS", check_bits, "checkBits"),
-        ("By slots: the three places of each position's edges, checks ascending. Entry j of check c lies at place 83 j + c.", "EDGES", edges, "slotEdge"),
-        ("By slots: the place after the last entry of each check of six positions.", "PADS", pads, "slotPads"),
+        ("Where each check's positions start in CHECK_BITS, and the end of the last.", "CHECK_STARTS", check_start, "check_start"),
+        ("The positions of each check, counted from 0: one for each of the 522 edges.", "CHECK_BITS", check_bits, "check_bits"),
+        ("By slots: the three places of each position's edges, checks ascending. Entry j of check c lies at place 83 j + c.", "EDGES", edges, "slot_edge"),
+        ("By slots: the place after the last entry of each check of six positions.", "PADS", pads, "slot_pads"),
     ]
 
     with open(os.path.join(encoding, "src/tables.rt"), "w", encoding="utf-8") as f:
@@ -95,27 +95,27 @@ def main():
         parts += [constant(note, name, "u16", t, "%d") for note, name, t, _ in graph]
         f.write("\n".join(parts))
 
-    names = {"GENERATOR": "generator", "NM": "nm", "NUM_ROWS": "numRows", "MN": "mn"}
+    names = {"GENERATOR": "generator", "NM": "nm", "NUM_ROWS": "num_rows", "MN": "mn"}
     for folder, what, tables in ((encoding, "generator", made), (code, "tables of the checks", rust)):
         with open(os.path.join(folder, "specs/Tables.antt"), "w", encoding="utf-8") as f:
-            f.write(head("-- The %s of the Rust's `ldpc.rs`, row after row: \"the definition takes the file's tables\" (document 01).\n"
-                         "-- Written by tools/ldpc_tables.py.\n" % what))
+            f.write("-- The %s of the Rust's `ldpc.rs`, row after row: \"the definition takes the file's tables\" (document 01).\n"
+                    "-- Written by tools/ldpc_tables.py.\n" % what + SPECS)
             for note, name, t, a_line, shown in tables:
                 f.write("\n" + listed(note, names[name], t, a_line, shown))
 
     with open(os.path.join(code, "proofs/Arrays.antt"), "w", encoding="utf-8") as f:
-        f.write(head("-- The Tanner graph's arrays, as the source's constants have them; `Graph.antt` and `BySlots.antt` show that they are right, "
-                     "by computation.\n"
-                     "-- Written by tools/ldpc_tables.py.\n"))
+        f.write("-- The Tanner graph's arrays, as the source's constants have them; `Graph.antt` and `BySlots.antt` show that they are right, "
+                "by computation.\n"
+                "-- Written by tools/ldpc_tables.py.\n" + PROOFS)
         for note, name, t, spelled in graph:
             f.write("\n" + listed(note, spelled, t, 20, "%d"))
 
     rows = [check_bits[check_start[c]:check_start[c + 1]] for c in range(83)]
     with open(os.path.join(crates, "codewords/proofs/CheckSets.antt"), "w", encoding="utf-8") as f:
-        f.write(head("-- For each parity bit, the checks that add up to its generator row; `Codewords.antt` shows that they do, by computation.\n"
-                     "-- Written by tools/ldpc_tables.py.\n"))
+        f.write("-- For each parity bit, the checks that add up to its generator row; `Codewords.antt` shows that they do, by computation.\n"
+                "-- Written by tools/ldpc_tables.py.\n" + PROOFS)
         f.write("\n" + listed("A number for each of the 83 parity bits: its binary digit c, the lowest being 0, is 1 where check c is added.",
-                              "checkSets", check_sets(rows), 1, "0x%021x"))
+                              "check_sets", check_sets(rows), 1, "0x%021x"))
 
 
 main()

@@ -1,4 +1,4 @@
-// Prints the tables of the staircase codes from the construction: the text of crates/staircase/src/tables.rt below its first line.
+// Prints the tables of the staircase codes from the construction: what crates/staircase/src/tables.rt has below its first line, an entry a line.
 #![tactic(auto)]
 
 ghost use Rattle.std.specs.Prelude.{◌<◌};
