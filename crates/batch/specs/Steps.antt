@@ -5,7 +5,7 @@ use Rattle.batch.specs.Codes.{size_n, size_k}
 use Rattle.batch.specs.Pairs.{AllWithin}
 use Rattle.batch.specs.Calls.{Batch}
 -- one pair tested: defined in crate `batch_refusals` (specs/Steps.antt)
-pub use Rattle.batch_refusals.specs.Steps.{seen_of, seen_all}
+pub use Rattle.batch_refusals.specs.Steps.{seen_all}
 unfoldable pub use Rattle.batch_refusals.specs.Steps.{next_seen}
 -- one frame decoded to its place: defined in crate `one_frame` (specs/Place.antt)
 pub use Rattle.one_frame.specs.Place.{PlaceFits}

@@ -2,14 +2,14 @@
 #![tactic(auto)]
 
 ghost use Rattle.std.specs.Prelude.{◌≡◌};
-ghost use Rattle.refusal.specs.Answers.{status_of};
+ghost use Rattle.refusal.specs.Answers.{outcome_of};
 ghost use Rattle.rules.specs.Rules.{as_stored};
 ghost use Rattle.batch.specs.Pairs.{pairs_of};
 ghost use Rattle.batch.specs.Calls.{lent, batch, written, Answered};
 ghost use Rattle.batch.specs.Steps.{Fitting};
 
 use batch_refusals::Room;
-use refusal::Status;
+use refusal::Refusal;
 
 // All frames, in place order.
 fn decode_frames(
@@ -31,8 +31,7 @@ fn decode_frames(
         ≡ written (batch code rule limit scale values.now (pairs_of pairs.now)
         (lent bits.old counts.old rounds.old firsts.old work.old)) }
 {
-    let mut j = 0;
-    while j < counts.len() {
+    for j in 0..counts.len() {
         one_frame::decode_place(
             code,
             rule,
@@ -47,7 +46,6 @@ fn decode_frames(
             firsts,
             work,
         );
-        j += 1;
     }
     work_area::clear_area(work);
 }
@@ -65,27 +63,19 @@ pub fn decode_batch(
     rounds: &mut [u16],
     firsts: &mut [u16],
     work: &mut [f32],
-) -> Status
+) -> Result<(), Refusal>
     ensures { Answered
         (batch code rule limit scale values.now (pairs_of pairs.now)
         (lent bits.old counts.old rounds.old firsts.old work.old))
-        (status_of result)
+        (outcome_of result)
         (lent bits.new counts.new rounds.new firsts.new work.new) }
 {
-    let room = Room {
-        bits: bits.len(),
-        counts: counts.len(),
-        rounds: rounds.len(),
-        firsts: firsts.len(),
-        work: work.len(),
-    };
-    if let Status::Refused(r) = batch_refusals::batch_fault(code, rule, values.len(), pairs, room) {
-        return Status::Refused(r);
-    }
+    let room = Room::of(bits, counts, rounds, firsts, work);
+    batch_refusals::batch_fault(code, rule, values.len(), pairs, room)?;
     decode_frames(
         code, rule, scale, limit, values, pairs, bits, counts, rounds, firsts, work,
     );
-    Status::Done
+    Ok(())
 }
 
 // The batch over flat slices, of a batch that was stored when rule 3 stood for rule 0.
@@ -101,11 +91,11 @@ pub fn decode_stored_batch(
     rounds: &mut [u16],
     firsts: &mut [u16],
     work: &mut [f32],
-) -> Status
+) -> Result<(), Refusal>
     ensures { Answered
         (batch code (as_stored rule) limit scale values.now (pairs_of pairs.now)
         (lent bits.old counts.old rounds.old firsts.old work.old))
-        (status_of result)
+        (outcome_of result)
         (lent bits.new counts.new rounds.new firsts.new work.new) }
 {
     decode_batch(

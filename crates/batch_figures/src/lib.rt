@@ -3,7 +3,7 @@
 
 ghost use Rattle.std.specs.Prelude.{◌≡◌, ◌*◌, ◌≤◌, length};
 ghost use Rattle.refusal.specs.Outcome.{judged};
-ghost use Rattle.refusal.specs.Answers.{status_of};
+ghost use Rattle.refusal.specs.Answers.{outcome_of};
 ghost use Rattle.batch.specs.Codes.{size_n, size_k};
 ghost use Rattle.batch.specs.Pairs.{pairs_of, AllWithin};
 ghost use Rattle.figures.specs.Totals.{summed_of, totals_of, sums, join_refusals};
@@ -11,8 +11,8 @@ ghost use Rattle.batch_figures.specs.Results.{results, batch_frames, result_refu
 ghost use Rattle.batch_figures.specs.Steps.{with_frame};
 
 use batch_refusals::Room;
-use figures::{Summed, Totals};
-use refusal::Status;
+use figures::Totals;
+use refusal::Refusal;
 use work_area::WORK;
 
 // ---- refusals
@@ -25,8 +25,8 @@ fn results_fault(
     bits: &[u8],
     counts: &[u16],
     rounds: &[u16],
-) -> Status
-    ensures { status_of result ≡ judged (result_refusals
+) -> Result<(), Refusal>
+    ensures { outcome_of result ≡ judged (result_refusals
         (results code values.now (pairs_of pairs.now) bits.now counts.now rounds.now)) tt }
 {
     let room = Room {
@@ -42,12 +42,15 @@ fn results_fault(
 // ---- the frames
 
 // The sum with one frame more.
-fn with_frame(sum: Summed, count: u16, rounds: u16, clean: bool) -> Summed
+fn with_frame(
+    sum: Result<Totals, Refusal>,
+    count: u16,
+    rounds: u16,
+    clean: bool,
+) -> Result<Totals, Refusal>
     ensures { summed_of result ≡ with_frame (summed_of sum) (record { count = count; rounds = rounds; clean = clean }) }
 {
-    let Summed::Is(total) = sum else {
-        return sum;
-    };
+    let total = sum?;
     figures::join(total, figures::of_frame(count, rounds, clean))
 }
 
@@ -60,7 +63,7 @@ fn add_frames(
     bits: &[u8],
     counts: &[u16],
     rounds: &[u16],
-) -> Summed
+) -> Result<Totals, Refusal>
     requires all_within { AllWithin (size_n code) (length values.now) (pairs_of pairs.now) }
     requires pairs_len_bound { length (pairs_of pairs.now) ≤ 24 }
     requires counts_len { (length counts.now ≡ length (pairs_of pairs.now)) × (length bits.now ≡ length (pairs_of pairs.now) * size_k code) }
@@ -69,12 +72,10 @@ fn add_frames(
         (results code values.now (pairs_of pairs.now) bits.now counts.now rounds.now)) in
         judged (join_refusals total t) (sums total t)) }
 {
-    let mut sum = Summed::Is(total);
-    let mut j = 0;
-    while j < counts.len() {
+    let mut sum = Ok(total);
+    for j in 0..counts.len() {
         let clean = clean_frames::clean_at(code, values, pairs, j, counts, bits);
         sum = with_frame(sum, counts[j], rounds[j], clean);
-        j += 1;
     }
     sum
 }
@@ -90,12 +91,10 @@ pub fn add_batch(
     bits: &[u8],
     counts: &[u16],
     rounds: &[u16],
-) -> Summed
+) -> Result<Totals, Refusal>
     ensures { summed_of result ≡ added total
         (results code values.now (pairs_of pairs.now) bits.now counts.now rounds.now) }
 {
-    if let Status::Refused(r) = results_fault(code, values, pairs, bits, counts, rounds) {
-        return Summed::Refused(r);
-    }
+    results_fault(code, values, pairs, bits, counts, rounds)?;
     add_frames(total, code, values, pairs, bits, counts, rounds)
 }

@@ -6,7 +6,7 @@ ghost use Rattle.batch_input.specs.Input.{u16_at, u32_at, u32s_from, float_of, p
 ghost use Rattle.batch_input.specs.Read.{Read, HeaderOf};
 
 // The numbers that a frame is decoded by.
-#[derive(Drop)]
+#[derive(Clone, Copy)]
 pub struct Header {
     pub code: u32,
     pub rule: u32,
@@ -46,10 +46,8 @@ pub fn load_words(input: &[u8], at: usize, words: &mut [u32])
     requires { at + 4 * length words.old ≤ length input.now }
     ensures { words.new ≡ u32s_from (λ w. w) input.now at (length words.old) }
 {
-    let mut i = 0;
-    while i < words.len() {
-        words[i] = u32_at(input, at + 4 * i);
-        i += 1;
+    for (i, word) in words.iter_mut().enumerate() {
+        *word = u32_at(input, at + 4 * i);
     }
 }
 
@@ -58,10 +56,8 @@ pub fn load_values(input: &[u8], at: usize, values: &mut [f32])
     requires { at + 4 * length values.old ≤ length input.now }
     ensures { values.new ≡ u32s_from float_of input.now at (length values.old) }
 {
-    let mut i = 0;
-    while i < values.len() {
-        values[i] = float_of(u32_at(input, at + 4 * i));
-        i += 1;
+    for (i, value) in values.iter_mut().enumerate() {
+        *value = float_of(u32_at(input, at + 4 * i));
     }
 }
 

@@ -1,13 +1,14 @@
 -- The pairs of a flat list, and what their tests find: by induction, two numbers a step. Assumes nothing.
-use mathlib.Core.Path.{◌≡◌, refl, sym}
+use Rattle.std.specs.Simd.{first_chunks}
+use mathlib.Core.Path.{◌≡◌, refl, sym, ap, ◌∙◌}
 use mathlib.Core.Bool.{Bool, true, false, not, cond}
-use mathlib.Core.List.{List, [], ◌∷◌, ◌++◌}
+use mathlib.Core.List.{List, [], ◌∷◌, ◌++◌, map}
 use Prim.Native.Nat.{ℕ, zero, suc, ◌+◌, ◌*◌, ◌/◌, ◌<◌, ◌≤◌}
 use native.Mathlib.Numerals.{add-one}
 use native.Mathlib.Omega.{arith}
 use borrow.Author.Tests.{eqb-true, ltb-false, not-false}
 use lib.Dec.{eqb, ltb}
-use lib.ListN.{length, get_or, drop, length-drop}
+use lib.ListN.{length, get_or, drop, length-map, drop_of_length-le, get_or-map}
 use lib.Seq.{drop-cons}
 use Rattle.refusal.specs.Outcome.{Outcome, accepted, refused, Condition, judged}
 use Rattle.refusal.proofs.Judged.{verdict, nothing, passed-by, judged_accepted, judged_refused}
@@ -32,23 +33,17 @@ pair_at (o ∷ n ∷ ns) (suc j) d h =
     let e : suc j * 2 ≡ suc (suc (j * 2)) = omega arith in
     rw e (pair_at ns j d (omega arith))
 
-short_none : (ns : List ℕ) → length ns < 2 → pairs_of ns ≡ []
-unfolding pairs_of
-short_none [] h = refl
-short_none (o ∷ []) h = refl
-short_none (o ∷ n ∷ ns) h = absurd (omega arith)
+-- two numbers as a pair, and the pairs as what the chunks of two are
+abbrev pub of-two : List ℕ → Pair
+of-two ns = pair (get_or ns 0 0) (get_or ns 1 0)
 
-pub pairs-done : (ns : List ℕ) (i : ℕ) → length ns ≤ i + 1 → pairs_of (drop i ns) ≡ []
-pairs-done ns i h = short_none (drop i ns) (simp length-drop (omega arith))
-
-pub pairs_next : (ns : List ℕ) (i : ℕ) → i + 1 < length ns
-    → pairs_of (drop i ns) ≡ pair (get_or ns i 0) (get_or ns (i + 1) 0) ∷ pairs_of (drop (i + 2) ns)
+pub twos-pairs : (ns : List ℕ) → map of-two (first_chunks 2 (length ns / 2) ns) ≡ pairs_of ns
 unfolding pairs_of
-pairs_next ns i h =
-    let a : drop i ns ≡ get_or ns i 0 ∷ drop (suc i) ns = drop-cons ns i 0 (omega arith) in
-    let b : drop (suc i) ns ≡ get_or ns (suc i) 0 ∷ drop (suc (suc i)) ns = drop-cons ns (suc i) 0 (omega arith) in
-    let e : i + 2 ≡ suc (suc i) = omega arith in
-    rw (a, b, e, add-one)
+twos-pairs [] = refl
+twos-pairs (o ∷ []) = refl
+twos-pairs (o ∷ n ∷ ns) =
+    let e : length (o ∷ n ∷ ns) / 2 ≡ suc (length ns / 2) = omega arith in
+    rw (e, twos-pairs ns)
 
 -- ---- the test of the pairs, pair by pair
 
@@ -91,15 +86,20 @@ module _ (n values : ℕ) where
       let next = p.offset + p.size in
       after-tests (pair_tests n values end p) next ps (pair_refusals n values next ps) (seen-pairs next ps)
 
-  -- one pair more, and none more
-  pub seen_more : (s : Outcome ℕ) {t : Outcome ℕ} {z : Outcome Unit} (p : Pair) (ps : List Pair) → t ≡ next_seen n values s p
-      → seen_from n values s (p ∷ ps) ≡ z → seen_from n values t ps ≡ z
+-- a list of anything that stands for pairs: one more, and none more
+module _ {A : Type 0} (f : A → Pair) (n values : ℕ) (ys : List A) (i : ℕ) (s : Outcome ℕ) {z : Outcome Unit} where
+  pub one-checked : (d : A) → i < length ys → {t : Outcome ℕ} → t ≡ next_seen n values s (f (get_or ys i d))
+      → seen_from n values s (drop i (map f ys)) ≡ z → seen_from n values t (drop (i + 1) (map f ys)) ≡ z
   unfolding seen_from
-  seen_more s p ps e z = rw e z
+  one-checked d p e w =
+      let first : drop i (map f ys) ≡ f (get_or ys i d) ∷ drop (i + 1) (map f ys) =
+      rw add-one (drop-cons (map f ys) i (f d) (simp length-map p) ∙ ap (λ q. q ∷ drop (suc i) (map f ys)) (get_or-map f ys i d)) in
+      let here : seen_from n values (next_seen n values s (f (get_or ys i d))) (drop (i + 1) (map f ys)) ≡ z = rw first at w in
+      rw e here
 
-  pub seen_last : (s : Outcome ℕ) {z : Outcome Unit} → seen_from n values s [] ≡ z → seen_all s ≡ z
+  pub all-checked : length ys ≤ i → seen_from n values s (drop i (map f ys)) ≡ z → seen_all s ≡ z
   unfolding seen_from
-  seen_last s e = e
+  all-checked p w = rw (drop_of_length-le (map f ys) {i = i} (simp length-map p)) at w
 
 -- ---- accepted pairs lie within the values
 

@@ -2,18 +2,10 @@
 -- to `Refusals.antt`.
 use Rattle.std.specs.Prelude.{ℕ, ◌+◌}
 use Rattle.refusal.specs.Outcome.{Outcome, accepted, refused, judged}
-use Rattle.refusal.specs.Numbers.{number_of}
 use Rattle.batch_refusals.specs.Pairs.{Pair}
 use Rattle.batch_refusals.specs.Refusals.{pair_tests}
-use Rattle.batch_refusals.specs.declared.Seen.{Seen}
-use Rattle.batch_refusals.specs.declared.Seen.TheVariants.{Until, Refused}
 
--- what the pairs so far come to: where the last of them ends, or a refusal
-abbrev pub seen_of : Seen → Outcome ℕ
-seen_of (Until end) = accepted end
-seen_of (Refused r) = refused (number_of r)
-
--- with one pair more
+-- What the pairs so far come to, where the last of them ends or a refusal, with one pair more.
 unfoldable pub next_seen : ℕ → ℕ → Outcome ℕ → Pair → Outcome ℕ
 next_seen n values (accepted end) p = judged (pair_tests n values end p) (p.offset + p.size)
 next_seen n values (refused k) p = refused k

@@ -10,13 +10,6 @@ use std::io::{Eprint, ErrorKind, Print};
 use std::rt::Files;
 use std::{fs, io, str};
 
-// What was read of a file: so many bytes, or that it could not be read.
-#[derive(Drop)]
-struct Got {
-    readable: bool,
-    bytes: usize,
-}
-
 // Room for the longest input and one byte more, by which a longer one is seen.
 fn input_room() -> [u8; 65537]
     ensures { 65537 ≡ length result }
@@ -48,22 +41,6 @@ fn read_argument<R: Files + Env>(rt: &R, i: usize, input: &mut [u8]) -> io::Resu
     }
 }
 
-// The file that argument i names.
-fn read_file<R: Files + Env>(rt: &R, i: usize, input: &mut [u8]) -> Got
-    ensures { result.bytes ≤ length input.new }
-{
-    match read_argument(rt, i, input) {
-        Ok(n) => Got {
-            readable: true,
-            bytes: n,
-        },
-        Err(_) => Got {
-            readable: false,
-            bytes: 0,
-        },
-    }
-}
-
 // The total after the file that argument i names; its line is written where it has one.
 fn count_file<R: Files + Env + Print + Eprint>(
     rt: &R,
@@ -71,12 +48,13 @@ fn count_file<R: Files + Env + Print + Eprint>(
     i: usize,
 ) -> io::Result<Totals> {
     let mut input = input_room();
-    let got = read_file(rt, i, &mut input);
-    let n = got.bytes;
+    let file = match read_argument(rt, i, &mut input) {
+        Ok(n) => Some(&input[..n]),
+        Err(_) => None,
+    };
     let mut out = [0u8; 4096];
-    let step = figure_report::add_file(total, i as u64, got.readable, &input[..n], &mut out);
-    let end = step.end;
-    streams::print(rt, &out[..end])?;
+    let step = figure_report::add_file(total, i as u64, file, &mut out);
+    streams::print(rt, &out[..step.end])?;
     Ok(step.total)
 }
 

@@ -1,4 +1,5 @@
 -- The decode put together: the initial word with its count and front, and the rounds where it does not satisfy every check. Assumes nothing.
+use Rattle.std.proofs.Common.{None}
 use mathlib.Core.Path.{◌≡◌, refl, sym, ap, ap₂, subst, ◌∙◌}
 use mathlib.Core.List.{List, map}
 use Prim.Native.Nat.{ℕ}
@@ -10,7 +11,6 @@ use Rattle.tanner.specs.Checks.{Word, count, Syndrome}
 use Rattle.tanner.specs.Masked.{syndrome_masked}
 use Rattle.tanner.specs.Found.{syndrome_of}
 use Rattle.tanner.specs.declared.Counted.{Counted}
-use Rattle.tanner.specs.declared.FirstCheck.TheVariants.{Satisfied}
 use Rattle.lists.specs.Below.{Below}
 use Rattle.tanner.proofs.First.{both, count_none}
 use Rattle.passes.specs.Codes.{checks_by}
@@ -40,10 +40,10 @@ module _ (code : ℕ) (rule : DecodeRule) (llr : List Float) where
 
   module _ (k limit : ℕ) (hard : Word) (e : hard ≡ initial_word d) where
     pub run_none : (bits : List ℕ) (first : Counted) → first.count ≡ 0 → Kept (checks_by code) k hard bits first
-        → Chose d limit k (record { count = 0; rounds = 0; first = Satisfied }) bits
+        → Chose d limit k (record { count = 0; rounds = 0; first = None }) bits
     run_none bits first z h =
         let none_left = count_none (checks_by code) hard (sym (ap (λ (s : Syndrome). s.count) h.counted) ∙ z) in
-        let kept : Kept (checks_by code) k hard bits (record { count = 0; first = Satisfied }) =
+        let kept : Kept (checks_by code) k hard bits (record { count = 0; first = None }) =
         record { front = h.front; counted = ap₂ both (sym z ∙ ap (λ (s : Syndrome). s.count) h.counted) (sym none_left) }
         in
         none-run d k limit bits _ refl (rw e at kept) refl

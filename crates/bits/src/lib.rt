@@ -9,5 +9,5 @@ ghost use Rattle.bits.specs.Bits.{bytes_for};
 pub fn bytes_for(num_bits: usize) -> usize
     ensures { result ≡ bytes_for num_bits }
 {
-    num_bits / 8 + (num_bits % 8 + 7) / 8
+    num_bits.div_ceil(8)
 }

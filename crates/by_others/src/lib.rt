@@ -6,29 +6,24 @@ ghost use Rattle.softmath.specs.Single.{fold_from};
 ghost use Rattle.by_others.specs.Others.{lesser_of, turned_by, others_answer, others_sum};
 
 // The least magnitude of the part's, and of `start`.
+#[tactic(auto, unfolding(softmath::specs::Single::fold_from))]
 fn least_from(start: f32, part: &[f32]) -> f32
     ensures { result ≡ fold_from lesser_of start part.now }
 {
-    let mut least = start;
-    let mut i = 0;
-    while i < part.len() {
-        least = softmath::lesser(softmath::magnitude(part[i]), least);
-        i += 1;
-    }
-    least
+    part.iter().copied().fold(
+        start,
+        |least, v| softmath::lesser(softmath::magnitude(v), least),
+    )
 }
 
 // The sign `start`, turned by each negative one of the part.
+#[tactic(auto, unfolding(softmath::specs::Single::fold_from))]
 fn sign_from(start: f32, part: &[f32]) -> f32
     ensures { result ≡ fold_from turned_by start part.now }
 {
-    let mut sign = start;
-    let mut i = 0;
-    while i < part.len() {
-        sign = softmath::turn_sign(part[i], sign);
-        i += 1;
-    }
-    sign
+    part.iter()
+        .copied()
+        .fold(start, |sign, v| softmath::turn_sign(v, sign))
 }
 
 // The answer to an entry, from its others alone: those before it and those after it, gone through in row order.
@@ -44,9 +39,7 @@ pub fn min_sum_by_others(scale: f32, messages: &[f32], answers: &mut [f32])
     requires { length answers.old ≡ length messages.now }
     ensures { answers.new ≡ others_sum scale messages.now }
 {
-    let mut i = 0;
-    while i < messages.len() {
-        answers[i] = others_answer(scale, &messages[..i], &messages[i + 1..]);
-        i += 1;
+    for (i, answer) in answers.iter_mut().enumerate() {
+        *answer = others_answer(scale, &messages[..i], &messages[i + 1..]);
     }
 }

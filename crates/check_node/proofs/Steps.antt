@@ -1,6 +1,7 @@
 -- The check step of a rule down each column, from what its passes leave: for the rules that multiply in three passes, each message by itself, those of
 -- each check together and each answer by itself; for min-sum in one. Assumes nothing.
 use mathlib.Core.Path.{◌≡◌, sym, ap, ◌∙◌}
+use mathlib.Core.Logic.{◌⊎◌, inl, inr}
 use mathlib.Core.List.{List, map}
 use Prim.Native.Nat.{ℕ, ◌*◌, ◌<◌, ◌≤◌}
 use native.Mathlib.Omega.{arith}
@@ -14,7 +15,6 @@ use Rattle.softmath.proofs.Steps.{step_parts}
 use Rattle.slots.specs.Columns.{column}
 use Rattle.slots.specs.Layout.{scattered}
 use Rattle.slots.proofs.Columns.{column-map}
-use Rattle.slots.proofs.Scattered.{scattered-length}
 use Rattle.check_node.specs.CheckStep.{AtColumns, pad_of}
 
 -- the three passes are the step
@@ -39,22 +39,17 @@ three_passes rule m d w w1 u v mul room e1 b e2 =
     }
 
 -- the rules that multiply
-pub sum-product_multiplies : (rule : DecodeRule) → rule ≡ SumProduct → (ts : List Float) → middle rule ts ≡ at_each product ts
+pub multiplies : (rule : DecodeRule) → (rule ≡ SumProduct) ⊎ (rule ≡ Ft8) → (ts : List Float) → middle rule ts ≡ at_each product ts
 unfolding middle
-sum-product_multiplies rule e ts = rw e
-
-pub ft8_multiplies : (rule : DecodeRule) → rule ≡ Ft8 → (ts : List Float) → middle rule ts ≡ at_each product ts
-unfolding middle
-ft8_multiplies rule e ts = rw e
+multiplies rule (inl e) ts = rw e
+multiplies rule (inr e) ts = rw e
 
 -- the two rules of min-sum
-pub min-sum_rule : (rule : DecodeRule) → rule ≡ MinSum → (ms : List Float) → min_sum (factor_of rule) ms ≡ check_step rule ms
+pub takes_minima : (rule : DecodeRule) → (rule ≡ MinSum) ⊎ ((scale : Float) × (rule ≡ ScaledMinSum scale)) → (ms : List Float)
+    → min_sum (factor_of rule) ms ≡ check_step rule ms
 unfolding factor_of check_step
-min-sum_rule rule e ms = rw e
-
-pub scaled_rule : (rule : DecodeRule) (scale : Float) → rule ≡ ScaledMinSum scale → (ms : List Float) → min_sum (factor_of rule) ms ≡ check_step rule ms
-unfolding factor_of check_step
-scaled_rule rule scale e ms = rw e
+takes_minima rule (inl e) ms = rw e
+takes_minima rule (inr s) ms = rw s.1
 
 -- what was answered by a function that is the rule's step, after the pads were set
 pub padded_step : (rule : DecodeRule) (f : List Float → List Float) (m d : ℕ) (pads : List ℕ) (pad : Float) (w w1 v : List Float)
@@ -66,6 +61,3 @@ padded_step rule f m d pads pad w w1 v same e1 e2 a =
       size = a.size ∙ ap length padded;
       columns = λ c l. a.columns c l ∙ same _ ∙ ap (λ (x : List Float). check_step rule (column m d c x)) padded;
     }
-
-pub padded_long : (pads : List ℕ) (pad : Float) (w w1 : List Float) → w1 ≡ scattered pad pads w → length w1 ≡ length w
-padded_long pads pad w w1 e = ap length e ∙ scattered-length pad pads w

@@ -19,11 +19,8 @@ fn scatter(value: f32, places: &[u16], work: &mut [f32])
     requires { Below (length work.old) places.now }
     ensures { work.new ≡ scattered value places.now work.old }
 {
-    let mut i = 0;
-    while i < places.len() {
-        let p = places[i] as usize;
-        work[p] = value;
-        i += 1;
+    for &p in places {
+        work[p as usize] = value;
     }
 }
 
@@ -32,10 +29,8 @@ fn pad_of(rule: DecodeRule) -> f32
     ensures { result ≡ pad_of rule }
 {
     match rule {
-        DecodeRule::SumProduct => 1.0 / 0.0,
-        DecodeRule::MinSum => 1.0 / 0.0,
-        DecodeRule::ScaledMinSum(_) => 1.0 / 0.0,
-        DecodeRule::Ft8 => -1.0 / 0.0,
+        DecodeRule::SumProduct | DecodeRule::MinSum | DecodeRule::ScaledMinSum(_) => f32::INFINITY,
+        DecodeRule::Ft8 => f32::NEG_INFINITY,
     }
 }
 
@@ -55,13 +50,11 @@ fn min_sum_step(rule: DecodeRule, m: usize, d: usize, work: &mut [f32])
     requires { length work.old ≡ d * m }
     ensures { AtColumns (min_sum (factor_of rule)) m d work.old work.new }
 {
-    if BY_OTHERS {
-        if d <= 16 {
-            slot_others::min_sum_second(rule, m, d, work);
-            return;
-        }
+    if BY_OTHERS && d <= 16 {
+        slot_others::min_sum_second(rule, m, d, work);
+    } else {
+        slot_minima::min_sum_minima(rule, m, d, work);
     }
-    slot_minima::min_sum_minima(rule, m, d, work);
 }
 
 // The check step of every check: the pads, then the rule. Between products and min-sum the choice is made once for all checks; which min-sum rule it
@@ -71,9 +64,10 @@ pub fn check_step(rule: DecodeRule, m: usize, d: usize, pads: &[u16], work: &mut
     requires below { Below (length work.old) pads.now }
     ensures { AtColumns (check_step rule) m d (scattered (pad_of rule) pads.now work.old) work.new }
 {
-    let pad = pad_of(rule);
-    scatter(pad, pads, work);
+    scatter(pad_of(rule), pads, work);
     match rule {
+        // Stays an arm for each rule: joined by `|` they miss the speed bar, 9.9 microseconds and not 9.0 for 256 checks of 5 entries under sum-product, and
+        // 5.5 and not 3.8 for 100 checks of 6 under min-sum.
         DecodeRule::SumProduct => product_step(rule, m, d, work),
         DecodeRule::MinSum => min_sum_step(rule, m, d, work),
         DecodeRule::ScaledMinSum(_) => min_sum_step(rule, m, d, work),

@@ -5,17 +5,12 @@ ghost use Rattle.std.specs.Prelude.{◌≡◌};
 ghost use Rattle.tanner.specs.Found.{first_of};
 ghost use Rattle.check_places.specs.Places.{place_of};
 
-use tanner::FirstCheck;
-
 // What stands in the place of a first unsatisfied check where every check is satisfied.
 pub const NO_CHECK: u16 = 65535;
 
 // A first unsatisfied check as one number.
-pub fn place_of(first: FirstCheck) -> u16
+pub fn place_of(first: Option<u16>) -> u16
     ensures { result ≡ place_of (first_of first) }
 {
-    match first {
-        FirstCheck::Check(c) => c,
-        FirstCheck::Satisfied => NO_CHECK,
-    }
+    first.unwrap_or(NO_CHECK)
 }

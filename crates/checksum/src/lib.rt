@@ -62,11 +62,8 @@ fn whole_bytes(message: &[u8], n: usize) -> u32
     ensures { result ≡ upper (register message.now (8 * n)) }
 {
     let mut r: u32 = 0;
-    let mut k = 0;
-    while k < n {
-        let byte = message[k];
+    for &byte in &message[..n] {
         r = turn_byte(take_in(r, byte));
-        k += 1;
     }
     r
 }
@@ -76,10 +73,8 @@ fn last_bits(byte: u8, n: usize, r: u32) -> u32
     ensures { result ≡ turns_up n (taken_in r byte) }
 {
     let mut q = take_in(r, byte);
-    let mut j = 0;
-    while j < n {
+    for _ in 0..n {
         q = step_up(q);
-        j += 1;
     }
     q
 }

@@ -1,6 +1,5 @@
--- The loops over values and bits, step by step: one more value, one more bit of the checksum, one more digit of a number.
-use mathlib.Core.Path.{◌≡◌, refl, sym, ap, subst, ◌∙◌}
-use mathlib.Core.Bool.{true, false}
+-- The loops over bits, step by step: one more value, one more bit of the checksum, one more digit of a number.
+use mathlib.Core.Path.{◌≡◌, refl, sym, ap, ◌∙◌}
 use mathlib.Core.List.{List, [], ◌∷◌, ◌++◌}
 use Prim.Native.Nat.{ℕ, ◌+◌, ◌-◌, ◌*◌, ◌%◌, ◌≤◌, ◌<◌, ◌^◌}
 use native.Mathlib.Nat.{mod-lt}
@@ -8,13 +7,9 @@ use native.Mathlib.Numerals.{add-one}
 use native.Mathlib.Decide.{dec_lt}
 use native.Mathlib.Omega.{arith}
 use lib.Bits.{bit_xor}
-use lib.Dec.{T}
-use lib.Ieee as Ieee
-use lib.Ieee.{Float, is_nan, nan, inf, fin}
-use lib.Ieee.Compare.{differs_from_itself, nan_differs}
-use lib.ListN.{length, get_or, take, drop, replicate, length-append, get_or-replicate, get_or-append, get_or-eq_default}
-use lib.Pow.{pow_mono, pow-add}
-use lib.Seq.{take-suc, take_all, drop-length, drop-cons, get_or-append-add}
+use lib.ListN.{length, get_or, take, replicate, length-append, get_or-replicate, get_or-append, get_or-eq_default}
+use lib.Pow.{pow-add}
+use lib.Seq.{take-suc, take_all, get_or-append-add}
 use Rattle.bits.specs.Bits.{number, number_after}
 use Rattle.checksum.specs.Register.{turn}
 use Rattle.checksum.specs.Qex.{bring_down, divide, qex}
@@ -24,37 +19,6 @@ use Rattle.bits.proofs.AreBits.{AreBits, none, more, are_bits_append, are_bits_t
 use Rattle.checksum.proofs.Division.{qex-lt, qex_more}
 use Rattle.tanner.specs.Checks.{low_bits}
 use Rattle.tanner.proofs.Count.{low-length}
-use Rattle.clean.specs.Clean.{any_nan}
-
--- ---- values
-nan-alone : (x : Float) → x ≡ nan → is_nan x ≡ true
-unfolding is_nan
-nan-alone x e = rw e
-
-pub differs : (x : Float) → Ieee.ne x x ≡ true → is_nan x ≡ true
-differs x d = nan-alone x (differs_from_itself x (subst T (sym d) tt))
-
-pub same : (x : Float) → Ieee.ne x x ≡ false → is_nan x ≡ false
-unfolding is_nan
-same nan d = sym nan_differs ∙ d
-same (inf s) d = refl
-same (fin s m e) d = refl
-
-module _ (vs : List Float) (i : ℕ) (h : i < length vs) where
-  pub nan-here : Ieee.ne (get_or vs i nan) (get_or vs i nan) ≡ true → any_nan (drop i vs) ≡ true
-  unfolding any_nan
-  nan-here d = rw (drop-cons vs i nan h, differs (get_or vs i nan) d)
-
-  pub nan-later : Ieee.ne (get_or vs i nan) (get_or vs i nan) ≡ false → any_nan (drop i vs) ≡ any_nan (drop (i + 1) vs)
-  unfolding any_nan
-  nan-later d = rw (add-one i, drop-cons vs i nan h, same (get_or vs i nan) d)
-
-pub none_left : (vs : List Float) (i : ℕ) → length vs ≤ i → i ≤ length vs → any_nan (drop i vs) ≡ any_nan vs → false ≡ any_nan vs
-unfolding any_nan
-none_left vs i h k e =
-    let all : i ≡ length vs = omega arith in
-    let gone : drop i vs ≡ [] = rw all (drop-length vs) in
-    sym (ap any_nan gone) ∙ e
 
 -- ---- the low bits
 pub low-bits : (bs : List ℕ) → AreBits (low_bits bs)
@@ -113,10 +77,4 @@ module _ (bs : List ℕ) where
 pub below_pow : (n b i : ℕ) → n < 2 ^ i → b < 2 → n * 2 + b < 2 ^ (i + 1)
 below_pow n b i h k =
     let twice : 2 ^ (i + 1) ≡ 2 ^ i * 2 = pow-add 2 i 1 in
-    omega arith
-
-pub room : (n i : ℕ) → n < 2 ^ i → i < 14 → n < 8192
-room n i h k =
-    let up : i ≤ 13 = omega arith in
-    let most : 2 ^ i ≤ 2 ^ 13 = pow_mono up in
     omega arith

@@ -10,25 +10,17 @@ ghost use Rattle.tanner.specs.Checks.{low_bits};
 ghost use Rattle.clean.specs.Clean.{any_nan, payload_checksum, carried_checksum, checksum_right, frame_clean};
 
 // The checksum that a block's bits carry, and the one computed of its payload.
-#[derive(Clone, Copy)]
+#[derive(Clone, Copy, Debug, PartialEq, Eq)]
 pub struct Checksums {
     pub carried: u16,
     pub computed: u16,
 }
 
-// Whether one of the values is a NaN, which alone differs from itself.
+// Whether one of the values is a NaN.
 fn any_nan(values: &[f32]) -> bool
     ensures { result ≡ any_nan values.now }
 {
-    let mut i = 0;
-    while i < values.len() {
-        let v = values[i];
-        if v != v {
-            return true;
-        }
-        i += 1;
-    }
-    false
+    values.iter().any(|v| v.is_nan())
 }
 
 // The checksum after one more bit.
@@ -44,10 +36,7 @@ fn turn_bit(r: u16, b: u16) -> u16
 fn bit_at(bytes: &[u8], i: usize) -> u16
     ensures { (result ≡ get_or (low_bits bytes.now) i 0) × (result < 2) }
 {
-    if i < bytes.len() {
-        return (bytes[i] % 2) as u16;
-    }
-    0
+    bytes.get(i).map_or(0, |byte| (byte % 2) as u16)
 }
 
 // The checksum of the bytes' low bits with five zeros after them.
@@ -57,10 +46,8 @@ fn checksum_of(bytes: &[u8]) -> u16
 {
     let n = bytes.len() + 5;
     let mut r: u16 = 0;
-    let mut i = 0;
-    while i < n {
+    for i in 0..n {
         r = turn_bit(r, bit_at(bytes, i));
-        i += 1;
     }
     r
 }
@@ -71,10 +58,8 @@ fn number_of(bytes: &[u8]) -> u16
     ensures { result ≡ number (low_bits bytes.now) }
 {
     let mut n: u16 = 0;
-    let mut i = 0;
-    while i < bytes.len() {
-        n = n * 2 + bit_at(bytes, i);
-        i += 1;
+    for &byte in bytes {
+        n = n * 2 + (byte % 2) as u16;
     }
     n
 }
@@ -103,7 +88,8 @@ pub fn is_clean(code: u32, values: &[f32], count: u16, bits: &[u8]) -> bool
     requires { code ≡ 3 → length bits.now ≡ 91 }
     ensures { result ≡ frame_clean code values.now count bits.now }
 {
-    if count != 0 {
+    let open = count != 0;
+    if open {
         return false;
     }
     if any_nan(values) {

@@ -4,12 +4,13 @@
 ghost use Rattle.std.specs.Prelude.{◌≡◌, ◌*◌, ◌<◌, ◌≤◌, length};
 ghost use Rattle.batch.specs.Codes.{size_n, size_k};
 ghost use Rattle.batch.specs.Pairs.{pairs_of, frames_of, AllWithin};
+ghost use Rattle.clean.specs.Clean.{frame_clean};
 ghost use Rattle.refusal.specs.Outcome.{judged};
-ghost use Rattle.refusal.specs.Answers.{answer_of};
+ghost use Rattle.refusal.specs.Answers.{outcome_of};
 ghost use Rattle.clean_frames.specs.CleanFrames.{clean_of};
-ghost use Rattle.clean_frames.specs.Calls.{frame_refusals, clean_number};
+ghost use Rattle.clean_frames.specs.Calls.{frame_refusals};
 
-use refusal::{Answer, Refusal};
+use refusal::Refusal;
 
 // Whether the frame that pair j names is clean, with its count and its bits among those of all frames.
 pub fn clean_at(
@@ -34,22 +35,19 @@ pub fn clean_at(
     clean::is_clean(code, &values[from..to], counts[j], &bits[at..end])
 }
 
-// Whether one frame of the code is clean, with the count and the bits that a decode of its values gave: 1 where it is, and 0 where it is not.
-pub fn frame_clean(code: u32, values: &[f32], count: u16, bits: &[u8]) -> Answer
-    ensures { answer_of result
-        ≡ judged (frame_refusals code values.now bits.now) (clean_number code values.now count bits.now) }
+// Whether one frame of the code is clean, with the count and the bits that a decode of its values gave.
+pub fn frame_clean(code: u32, values: &[f32], count: u16, bits: &[u8]) -> Result<bool, Refusal>
+    ensures { outcome_of result
+        ≡ judged (frame_refusals code values.now bits.now) (frame_clean code values.now count bits.now) }
 {
     if code > 3 {
-        return Answer::Refused(Refusal::UnknownCode);
+        return Err(Refusal::UnknownCode);
     }
     if values.len() != batch_refusals::frame_values(code) {
-        return Answer::Refused(Refusal::InputLength);
+        return Err(Refusal::InputLength);
     }
     if bits.len() != batch_refusals::message_bits(code) {
-        return Answer::Refused(Refusal::InputLength);
+        return Err(Refusal::InputLength);
     }
-    if clean::is_clean(code, values, count, bits) {
-        return Answer::Value(1);
-    }
-    Answer::Value(0)
+    Ok(clean::is_clean(code, values, count, bits))
 }

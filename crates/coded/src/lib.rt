@@ -2,11 +2,11 @@
 #![tactic(auto)]
 
 ghost use Rattle.std.specs.Prelude.{◌≡◌, pos, neg_ℤ};
-ghost use Rattle.refusal.specs.Answers.{answer_of, status_of};
+ghost use Rattle.refusal.specs.Answers.{outcome_of};
 ghost use Rattle.refusal.specs.Numbers.{number_of};
-ghost use Rattle.coded.specs.Coded.{coded, coded_unit};
+ghost use Rattle.coded.specs.Coded.{coded_by, flag, coded, coded_unit};
 
-use refusal::{Answer, Refusal, Status};
+use refusal::Refusal;
 
 // A value or a count as it is.
 pub fn value_code(v: u16) -> i32
@@ -19,24 +19,34 @@ pub fn value_code(v: u16) -> i32
 pub fn refusal_code(r: Refusal) -> i32
     ensures { result ≡ neg_ℤ (pos (number_of r)) }
 {
-    let n = refusal::number(r);
+    let n = u8::from(r);
     -(n as i32)
 }
 
-pub fn answer_code(answer: Answer) -> i32
-    ensures { result ≡ coded (answer_of answer) }
+pub fn answer_code(answer: Result<u16, Refusal>) -> i32
+    ensures { result ≡ coded (outcome_of answer) }
 {
     match answer {
-        Answer::Value(v) => value_code(v),
-        Answer::Refused(r) => refusal_code(r),
+        Ok(v) => value_code(v),
+        Err(r) => refusal_code(r),
     }
 }
 
-pub fn status_code(answer: Status) -> i32
-    ensures { result ≡ coded_unit (status_of answer) }
+// 1 for yes and 0 for no.
+pub fn flag_code(answer: Result<bool, Refusal>) -> i32
+    ensures { result ≡ coded_by flag (outcome_of answer) }
 {
     match answer {
-        Status::Done => 0,
-        Status::Refused(r) => refusal_code(r),
+        Ok(yes) => value_code(u16::from(yes)),
+        Err(r) => refusal_code(r),
+    }
+}
+
+pub fn status_code(answer: Result<(), Refusal>) -> i32
+    ensures { result ≡ coded_unit (outcome_of answer) }
+{
+    match answer {
+        Ok(()) => 0,
+        Err(r) => refusal_code(r),
     }
 }

@@ -4,11 +4,12 @@
 ghost use Rattle.figures.specs.Totals.{summed_of, figure_of};
 ghost use Rattle.coded_figures.specs.Figures.{totals, fraction, Writes};
 
-use figures::{Figure, Summed};
+use figures::{Fraction, Totals};
+use refusal::Refusal;
 
 // 0, with the new total written, or minus a refusal's number.
 pub fn summed_code(
-    answer: Summed,
+    answer: Result<Totals, Refusal>,
     frames: &mut u32,
     clean: &mut u64,
     counts: &mut u64,
@@ -19,28 +20,28 @@ pub fn summed_code(
         (totals frames.new clean.new counts.new rounds.new) }
 {
     match answer {
-        Summed::Is(total) => {
+        Ok(total) => {
             *frames = total.frames;
             *clean = total.clean;
             *counts = total.counts;
             *rounds = total.rounds;
             0
         }
-        Summed::Refused(r) => coded::refusal_code(r),
+        Err(r) => coded::refusal_code(r),
     }
 }
 
 // 0, with the fraction written, or minus a refusal's number.
-pub fn figure_code(answer: Figure, over: &mut u64, under: &mut u64) -> i32
+pub fn figure_code(answer: Result<Fraction, Refusal>, over: &mut u64, under: &mut u64) -> i32
     ensures { Writes (figure_of answer) result
         (fraction over.old under.old) (fraction over.new under.new) }
 {
     match answer {
-        Figure::Fraction(n, d) => {
-            *over = n;
-            *under = d;
+        Ok(f) => {
+            *over = f.numerator;
+            *under = f.denominator;
             0
         }
-        Figure::Refused(r) => coded::refusal_code(r),
+        Err(refusal) => coded::refusal_code(refusal),
     }
 }

@@ -2,46 +2,46 @@
 #![tactic(auto)]
 
 ghost use Rattle.std.specs.Prelude.{◌≡◌, ◌<◌};
+ghost use Rattle.refusal.specs.Answers.{outcome_of};
 ghost use Rattle.tanner.specs.Found.{counting_of};
 ghost use Rattle.decoders.specs.Calls.{decoding_of};
-ghost use Rattle.reason.specs.Calls.{explained_of};
 ghost use Rattle.cycles.specs.Calls.{Report, listed_of};
 ghost use Rattle.coded.specs.Coded.{lent, told_in};
 ghost use Rattle.coded_parts.specs.Parts.{Counts, Decodes, kind_of, part_of, computed_of, Explains, Lists};
 
 use cycles::Listed;
-use decoders::Decoding;
 use first_reason::Reason;
-use reason::Explained;
-use tanner::Counting;
+use refusal::Refusal;
+use rounds::Decoded;
+use tanner::Counted;
 
 // A count; its first check is written.
-pub fn counting_code(answer: Counting, first: &mut u16) -> i32
+pub fn counting_code(answer: Result<Counted, Refusal>, first: &mut u16) -> i32
     ensures { Counts (counting_of answer) result (lent first.old first.new) }
 {
     match answer {
-        Counting::Counted(counted) => {
+        Ok(counted) => {
             let check = counted.first;
             *first = check_places::place_of(check);
             coded::value_code(counted.count)
         }
-        Counting::Refused(r) => coded::refusal_code(r),
+        Err(r) => coded::refusal_code(r),
     }
 }
 
 // A decode's count; its rounds run and its first check are written.
-pub fn decoding_code(answer: Decoding, rounds: &mut u16, first: &mut u16) -> i32
+pub fn decoding_code(answer: Result<Decoded, Refusal>, rounds: &mut u16, first: &mut u16) -> i32
     ensures { Decodes (decoding_of answer) result (lent rounds.old rounds.new)
         (lent first.old first.new) }
 {
     match answer {
-        Decoding::Decoded(told) => {
+        Ok(told) => {
             let check = told.first;
             *rounds = told.rounds;
             *first = check_places::place_of(check);
             coded::value_code(told.count)
         }
-        Decoding::Refused(r) => coded::refusal_code(r),
+        Err(r) => coded::refusal_code(r),
     }
 }
 
@@ -91,30 +91,30 @@ fn computed_of(reason: Reason) -> u16
 }
 
 // A reason's number; its part and the computed checksum are written.
-pub fn reason_code(answer: Explained, part: &mut u16, computed: &mut u16) -> i32
-    ensures { Explains (explained_of answer) result (lent part.old part.new)
+pub fn reason_code(answer: Result<Reason, Refusal>, part: &mut u16, computed: &mut u16) -> i32
+    ensures { Explains (outcome_of answer) result (lent part.old part.new)
         (lent computed.old computed.new) }
 {
     match answer {
-        Explained::Because(why) => {
+        Ok(why) => {
             *part = part_of(why);
             *computed = computed_of(why);
             coded::value_code(kind_of(why))
         }
-        Explained::Refused(r) => coded::refusal_code(r),
+        Err(r) => coded::refusal_code(r),
     }
 }
 
 // How many cycles, which fits; the relaxed picks are written.
-pub fn listed_code(answer: Listed, relaxed: &mut u16) -> i32
+pub fn listed_code(answer: Result<Listed, Refusal>, relaxed: &mut u16) -> i32
     requires { told_in (λ (r : Report). r.cycles) (listed_of answer) 0 < 2147483648 }
     ensures { Lists (listed_of answer) result (lent relaxed.old relaxed.new) }
 {
     match answer {
-        Listed::Found(n, k) => {
-            *relaxed = k;
-            n as i32
+        Ok(listed) => {
+            *relaxed = listed.relaxed;
+            listed.cycles as i32
         }
-        Listed::Refused(r) => coded::refusal_code(r),
+        Err(r) => coded::refusal_code(r),
     }
 }

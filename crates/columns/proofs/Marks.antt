@@ -1,15 +1,15 @@
 -- Flags and loads after stores: what one store does to each row, and what a column's stores do together. By cases on whether it is the row.
-use mathlib.Core.Path.{◌≡◌, refl, sym, ◌∙◌}
+use mathlib.Core.Path.{◌≡◌, refl, sym, ap, ◌∙◌}
 use mathlib.Core.Bool.{Bool, true, false, cond, ◌&&◌, ◌||◌, or_assoc, or-true, or-false}
-use mathlib.Core.List.{List, [], ◌∷◌, ◌++◌, append-nil}
-use Prim.Native.Nat.{ℕ, ◌+◌, ◌-◌, ◌*◌, ◌≤◌, ◌<◌}
+use mathlib.Core.List.{List, [], ◌∷◌, ◌++◌}
+use Prim.Native.Nat.{ℕ, ◌+◌, ◌*◌, ◌≤◌, ◌<◌}
 use native.Mathlib.Numerals.{add-one}
 use native.Mathlib.Omega.{arith}
 use borrow.Author.Tests.{eqb-true, eqb-false}
 use lib.Dec.{eqb}
-use lib.ListN.{length, get_or, set, take, drop, length-set, length-take, replicate}
-use borrow.Author.Fill.{fill_more}
-use lib.Seq.{get_or-set_same, get_or-set_other, take-suc, drop-length}
+use lib.ListN.{length, get_or, set, take, drop, length-set, length-take, length-drop, length-append}
+use lib.Seq.{get_or-set_same, get_or-set_other, take-suc, take_at, drop_at, take-take, drop-drop}
+use Rattle.std.proofs.lemmas.List.{drop-take}
 use Rattle.columns.specs.Rows.{holds, times, together}
 use Rattle.columns.specs.Tables.{flag_at, column_at, columns_in, Marked, MarkedWith, AllMarked, Loaded, Room}
 use Rattle.lists.specs.Below.{Below}
@@ -81,19 +81,31 @@ pub joined-none : (rows : List ℕ) (q : ℕ) (u : List ℕ) → Joined (columns
 unfolding Joined together columns_in
 joined-none rows q u r h = refl
 
-column_part : (rows : List ℕ) (j : ℕ) → take (3 * j + 3 - 3 * j) (drop (3 * j) rows) ≡ column_at rows j
-unfolding column_at
-column_part rows j =
-    let e : 3 * j + 3 - 3 * j ≡ 3 = omega arith in
-    rw e
+-- a chunk of three after k columns, of the first n, is the next column
+module _ (rows : List ℕ) (n k : ℕ) (c left more : List ℕ) (long : 3 * n ≤ length rows) (here : left ≡ drop (3 * k) (take (3 * n) rows))
+    (cut : left ≡ c ++ more) (three : length c ≡ 3) where
+  pub chunk-few : k + 1 ≤ n
+  chunk-few = omega (arith, simp (length-drop, length-take) at (ap length here), simp length-append at (ap length cut))
 
-pub joined_more : (rows : List ℕ) (j q : ℕ) (u v w : List ℕ) → length v ≡ length u → Joined (columns_in rows j) q u v
-    → MarkedWith (take (3 * j + 3 - 3 * j) (drop (3 * j) rows)) q v w → Joined (columns_in rows (j + 1)) q u w
+  pub chunk-is : c ≡ column_at rows k
+  unfolding column_at
+  chunk-is =
+      let few = chunk-few in
+      let inside : 3 * k + 3 ≤ 3 * n = omega arith in
+      let whole = take (3 * n) rows in
+      sym (take_at c more 3 three) ∙ rw (← cut, here, ← drop-take (3 * k) 3 whole, take-take (3 * k + 3) (3 * n) rows inside) (drop-take (3 * k) 3 rows)
+
+  pub chunk-more : more ≡ drop (3 * (k + 1)) (take (3 * n) rows)
+  chunk-more =
+      let e : 3 * k + 3 ≡ 3 * (k + 1) = omega arith in
+      sym (drop_at c more 3 three) ∙ rw (← cut, here, drop-drop 3 (3 * k) (take (3 * n) rows), e)
+
+pub joined_more : (rows : List ℕ) (k q : ℕ) (u v w : List ℕ) → length v ≡ length u → Joined (columns_in rows k) q u v
+    → MarkedWith (column_at rows k) q v w → Joined (columns_in rows (k + 1)) q u w
 unfolding Joined MarkedWith together columns_in
-joined_more rows j q u v w size inv m r h =
-    let c = column_at rows j in
-    let n = rw (column_part rows j) at (m r (omega arith)) in
-    rw add-one (n ∙ rw (inv r h) (sym (or_assoc (holds c q && holds c r) (together (columns_in rows j) q r) (flag_at u r))))
+joined_more rows k q u v w size inv m r h =
+    let c = column_at rows k in
+    rw add-one (m r (omega arith) ∙ rw (inv r h) (sym (or_assoc (holds c q && holds c r) (together (columns_in rows k) q r) (flag_at u r))))
 
 pub with_held : (c : List ℕ) (q : ℕ) (u v : List ℕ) → holds c q ≡ true → Marked c u v → MarkedWith c q u v
 unfolding Marked MarkedWith
@@ -107,13 +119,3 @@ pub joined-all : (cs : List (List ℕ)) (q : ℕ) (u v : List ℕ) → Joined cs
 unfolding Joined AllMarked
 joined-all cs q u v inv r h =
     inv r (simp length-set (omega arith)) ∙ rw (flag_set_at u q r h) (or_swap (eqb q r) (together cs q r) (flag_at u r))
-
--- ---- zeros
-pub cleared_more : (u v : List ℕ) (i : ℕ) → i < length v → length v ≡ length u → v ≡ replicate i 0 ++ drop i u
-    → set v i 0 ≡ replicate (i + 1) 0 ++ drop (i + 1) u
-cleared_more u v i h size e = rw e (fill_more i 0 u (omega arith))
-
-pub cleared-done : (u v : List ℕ) (i : ℕ) → length v ≤ i → i ≤ length u → length v ≡ length u → v ≡ replicate i 0 ++ drop i u → v ≡ replicate (length u) 0
-cleared-done u v i h low size e =
-    let n : i ≡ length u = omega arith in
-    e ∙ rw (n, drop-length u, append-nil {A = ℕ} (replicate (length u) 0))

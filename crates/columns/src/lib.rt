@@ -10,36 +10,7 @@ ghost use Rattle.lists.specs.Below.{Below};
 pub fn contains(column: &[u16], r: usize) -> bool
     ensures { result ≡ holds column.now r }
 {
-    let mut i = 0;
-    while i < column.len() {
-        if column[i] as usize == r {
-            return true;
-        }
-        i += 1;
-    }
-    false
-}
-
-// No flags.
-pub fn clear_marks(marks: &mut [u8])
-    ensures { marks.new ≡ replicate (length marks.old) 0 }
-{
-    let mut i = 0;
-    while i < marks.len() {
-        marks[i] = 0;
-        i += 1;
-    }
-}
-
-// No loads.
-pub fn clear_loads(loads: &mut [u16])
-    ensures { loads.new ≡ replicate (length loads.old) 0 }
-{
-    let mut i = 0;
-    while i < loads.len() {
-        loads[i] = 0;
-        i += 1;
-    }
+    column.iter().any(|&q| q as usize == r)
 }
 
 // A flag at each of the column's rows.
@@ -47,11 +18,8 @@ fn mark_rows(marks: &mut [u8], column: &[u16])
     requires { Below (length marks.old) column.now }
     ensures { Marked column.now marks.old marks.new }
 {
-    let mut i = 0;
-    while i < column.len() {
-        let r = column[i] as usize;
-        marks[r] = 1;
-        i += 1;
+    for &r in column {
+        marks[r as usize] = 1;
     }
 }
 
@@ -73,12 +41,8 @@ pub fn mark_together(marks: &mut [u8], rows: &[u16], n: usize, q: usize)
     ensures { AllMarked (columns_in rows.now n) q marks.old marks.new }
 {
     marks[q] = 1;
-    let mut j = 0;
-    while j < n {
-        let at = 3 * j;
-        let end = at + 3;
-        mark_column(marks, &rows[at..end], q);
-        j += 1;
+    for column in rows[..3 * n].chunks_exact(3) {
+        mark_column(marks, column, q);
     }
 }
 
@@ -88,37 +52,9 @@ pub fn add_loads(loads: &mut [u16], column: &[u16])
     requires room { Room (length column.now) loads.old }
     ensures { Loaded column.now loads.old loads.new }
 {
-    let mut i = 0;
-    while i < column.len() {
-        let r = column[i] as usize;
-        loads[r] += 1;
-        i += 1;
+    for &r in column {
+        loads[r as usize] += 1;
     }
-}
-
-#[derive(Drop)]
-struct Three(u16, u16, u16);
-
-// Three rows in order.
-fn in_order(a: u16, b: u16, c: u16) -> Three
-    ensures { result.0 ∷ (result.1 ∷ (result.2 ∷ [])) ≡ sorted (a ∷ (b ∷ (c ∷ []))) }
-{
-    if a <= b {
-        if b <= c {
-            return Three(a, b, c);
-        }
-        if a <= c {
-            return Three(a, c, b);
-        }
-        return Three(c, a, b);
-    }
-    if a <= c {
-        return Three(b, a, c);
-    }
-    if b <= c {
-        return Three(b, c, a);
-    }
-    Three(c, b, a)
 }
 
 // A column's rows, sorted where they lie.
@@ -126,8 +62,5 @@ pub fn sort_column(column: &mut [u16])
     requires { length column.old ≡ 3 }
     ensures { column.new ≡ sorted column.old }
 {
-    let three = in_order(column[0], column[1], column[2]);
-    column[0] = three.0;
-    column[1] = three.1;
-    column[2] = three.2;
+    column.sort_unstable();
 }

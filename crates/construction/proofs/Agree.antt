@@ -6,16 +6,17 @@ use mathlib.Core.List.{List, [], ◌∷◌}
 use Prim.Native.Nat.{ℕ, zero, suc, ◌+◌, ◌%◌, ◌≤◌, ◌<◌}
 use native.Mathlib.Nat.{mod-lt, zero-add, add-zero, add-suc, suc-add}
 use native.Mathlib.Omega.{arith}
-use lib.Dec.{leb, ltb, eqb, eqb-suc-zero}
+use lib.Dec.{ltb, eqb, eqb-suc-zero}
 use lib.ListN.{length, get_or, set, take, drop, length-set, length-drop, length-replicate, get_or-replicate}
 use lib.Seq.{get_or-take, get_or-drop, length-take-le}
 use Rattle.xorshift.specs.Draw.{draw}
-use Rattle.columns.specs.Rows.{holds, together, times, insert, sorted}
+use Rattle.columns.specs.Rows.{holds, together, times}
 use Rattle.columns.specs.Tables.{flag_at}
+use Rattle.columns.proofs.Sorted.{times-sorted}
 use Rattle.columns.proofs.Marks.{flag_set_at, load-set_at, or_swap}
-use Rattle.picking.specs.Picks.{row, least_of, search, settled, up_from}
+use Rattle.std.specs.Prelude.{Some}
+use Rattle.picking.specs.Picks.{least_of, search, settled, up_from}
 use Rattle.picking.specs.Searches.{met_row, met_rows, load_at}
-use Rattle.picking.proofs.Rows.{either}
 use Rattle.picking.proofs.Searches.{met-round}
 use Rattle.placing.specs.OnePick.{skipped, load, pick}
 use Rattle.placing.specs.Tables.{Loads}
@@ -82,16 +83,6 @@ unfolding loaded times
 loaded-times [] ls r h = omega arith
 loaded-times (x ∷ xs) ls r h = loaded-times xs (set ls x (get_or ls x 0 + 1)) r (simp length-set h) ∙ rw (load-set_at ls x r h) (omega arith)
 
-times-insert : (x : ℕ) (l : List ℕ) (r : ℕ) → times (insert x l) r ≡ cond (eqb x r) 1 0 + times l r
-unfolding insert times
-times-insert x [] r = refl
-times-insert x (y ∷ ys) r = either (λ (l : List ℕ). times l r ≡ cond (eqb x r) 1 0 + times (y ∷ ys) r) (leb x y) refl (rw (times-insert x ys r) (omega arith))
-
-pub times-sorted : (l : List ℕ) (r : ℕ) → times (sorted l) r ≡ times l r
-unfolding sorted times
-times-sorted [] r = refl
-times-sorted (x ∷ xs) r = times-insert x (sorted xs) r ∙ rw (times-sorted xs r)
-
 -- ---- the scan
 -- the best so far has the load of its row
 Right : (ℕ → ℕ) → Best → Type 0
@@ -99,7 +90,7 @@ Right L none = Unit
 Right L (best l q) = l ≡ L q
 
 module _ (L : ℕ → ℕ) (S : ℕ → Bool) where
-  less-is : (t : Bool) (l k r q : ℕ) → found_in (less_of t l r (best k q)) ≡ row (cond t r q)
+  less-is : (t : Bool) (l k r q : ℕ) → found_in (less_of t l r (best k q)) ≡ Some (cond t r q)
   unfolding less_of found_in
   less-is true l k r q = refl
   less-is false l k r q = refl

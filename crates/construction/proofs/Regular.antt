@@ -12,7 +12,7 @@ use Rattle.picking.proofs.Rows.{Each, each_append, each-sorted, settled-has, sea
 use Rattle.placing.specs.OnePick.{skipped, load, pick}
 use Rattle.placing.proofs.Finished.{sorted-length}
 use Rattle.construction.specs.Columns.{one_pick, picks, finished, next_column, made}
-use Rattle.construction.proofs.Agree.{times-sorted}
+use Rattle.columns.proofs.Sorted.{times-sorted}
 use Rattle.construction.proofs.Different.{three_different, different_once}
 
 -- each of the rows is below m

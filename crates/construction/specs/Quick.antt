@@ -1,9 +1,9 @@
 -- The same columns in a form that is quick to compute: a list of the rows' loads is kept, and a pick marks the rows that it skips.
 -- `proofs/Agree.antt` shows that the two forms agree.
-use Rattle.std.specs.Prelude.{Bool, true, false, List, [], ◌∷◌, ◌++◌, ℕ, zero, suc, ◌+◌, ◌%◌, ltb, get_or, take, drop, set, replicate}
+use Rattle.std.specs.Prelude.{Bool, true, false, Some, None, List, [], ◌∷◌, ◌++◌, ℕ, zero, suc, ◌+◌, ◌%◌, ltb, get_or, take, drop, set, replicate}
 use Rattle.xorshift.specs.Draw.{draw}
 use Rattle.columns.specs.Rows.{holds}
-use Rattle.picking.specs.Picks.{Found, row, nothing, Choice, settled}
+use Rattle.picking.specs.Picks.{Found, Choice, settled}
 use Rattle.construction.specs.Columns.{Picks, Made, finished}
 
 -- 1 at each of the rows
@@ -45,8 +45,8 @@ scan (l ∷ ls) [] r b = b
 scan (l ∷ ls) (f ∷ fs) r b = scan ls fs (suc r) (met f l r b)
 
 unfoldable pub found_in : Best → Found
-found_in none = nothing
-found_in (best l r) = row r
+found_in none = None
+found_in (best l r) = Some r
 
 unfoldable pub quick_search : List ℕ → List ℕ → ℕ → Found
 quick_search ls fs s = found_in (scan (take s ls) (take s fs) 0 (scan (drop s ls) (drop s fs) s none))

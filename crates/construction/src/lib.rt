@@ -13,8 +13,11 @@ use xorshift::Xorshift;
 
 // One generator is lent: "the generator's state is lent and advanced once per pick". The functions that take
 // or make the reference are thin: a pick draws and places, a column makes three picks, and the columns are made in turn.
+//
+// Stays three slices at each call: where a struct holds them by `&mut`, each function that takes it has to ensure that each field is the same
+// reference still, which is longer than the three parameters.
 
-// Pick t of column n at the lent generator's next draw.
+// Pick t of column n at the lent generator's next draw. Whether it was relaxed.
 fn one_pick(
     generator: &mut Xorshift,
     rows: &mut [u16],
@@ -22,13 +25,12 @@ fn one_pick(
     t: usize,
     loads: &[u16],
     marks: &mut [u8],
-) -> usize
+) -> bool
     requires { (t < 3) × Begun (length loads.now) n t rows.old loads.now marks.old }
     ensures { (generator.new.state ≡ draw generator.old.state)
-        × Placed (length loads.now) n t generator.new.state rows.old loads.now result
-        rows.new marks.new }
+        × Placed (length loads.now) n t generator.new.state rows.old loads.now result rows.new marks.new }
 {
-    let drawn = xorshift::next(generator);
+    let drawn = generator.next();
     placing::place(rows, n, t, loads, marks, drawn)
 }
 
@@ -48,7 +50,7 @@ fn column(
     let second = one_pick(generator, rows, n, 1, loads, marks);
     let third = one_pick(generator, rows, n, 2, loads, marks);
     placing::finish_column(rows, n, loads, marks);
-    first + second + third
+    usize::from(first) + usize::from(second) + usize::from(third)
 }
 
 // The rows of k columns, with the lent generator. How many picks were relaxed.
@@ -60,20 +62,17 @@ fn construct_with(
     k: usize,
 ) -> usize
     requires { Blank (length loads.old) k rows.old loads.old marks.old }
-    ensures { Constructed k (length loads.old) generator.old.state
-        rows.new generator.new.state result }
+    ensures { Constructed k (length loads.old) generator.old.state rows.new generator.new.state result }
 {
     let mut relaxed = 0;
-    let mut n = 0;
-    while n < k {
+    for n in 0..k {
         relaxed += column(generator, rows, n, loads, marks);
-        n += 1;
     }
     relaxed
 }
 
 // The generator's state after the last pick, and how many picks were relaxed.
-#[derive(Drop)]
+#[derive(Clone, Copy, PartialEq, Eq)]
 pub struct Step {
     pub state: u64,
     pub relaxed: usize,
@@ -107,7 +106,7 @@ pub fn construct(rows: &mut [u16], loads: &mut [u16], marks: &mut [u8], k: usize
     ensures state_value { (result.state ≡ (made k (length loads.old) seed).state)
         × (result.relaxed ≡ (made k (length loads.old) seed).relaxed) }
 {
-    columns::clear_loads(loads);
-    columns::clear_marks(marks);
+    loads.fill(0);
+    marks.fill(0);
     construct_seeded(rows, loads, marks, k, seed)
 }

@@ -2,14 +2,14 @@
 // The file stdout holds what the Rust printed for the messages of the file stdin.
 #![tactic(auto)]
 
-use refusal::{Answer, Status};
+use refusal::Refusal;
 use std::io;
 use std::io::{Print, Read};
 
-fn print_checksum(rt: &impl Print, c: Answer) -> io::Result<()> {
+fn print_checksum(rt: &impl Print, c: Result<u16, Refusal>) -> io::Result<()> {
     match c {
-        Answer::Value(v) => print!(rt; "{v:04x}"),
-        Answer::Refused(_) => print!(rt; "refused"),
+        Ok(v) => print!(rt; "{v:04x}"),
+        Err(_) => print!(rt; "refused"),
     }
 }
 
@@ -31,8 +31,8 @@ fn print_bytes(rt: &impl Print, bytes: &[u8]) -> io::Result<()> {
 fn print_block(rt: &impl Print, payload: &[u8]) -> io::Result<()> {
     let mut block = [0xFFu8; 12];
     match crc::ft8_add_crc(payload, &mut block) {
-        Status::Done => print_bytes(rt, &block),
-        Status::Refused(_) => print!(rt; "refused"),
+        Ok(()) => print_bytes(rt, &block),
+        Err(_) => print!(rt; "refused"),
     }
 }
 

@@ -1,7 +1,6 @@
 // Prints a line for each staircase code: the code, its cycles of length four, its relaxed picks.
 #![tactic(auto)]
 
-use cycles::Listed;
 use std::io;
 use std::io::Print;
 
@@ -14,8 +13,8 @@ fn print_line(rt: &impl Print, code: u32, cycles: u32, relaxed: u16) -> io::Resu
 fn print_code(rt: &impl Print, code: u32) -> io::Result<()> {
     let mut out = [0u16; 256];
     match cycles::list_cycles(code, &mut out) {
-        Listed::Found(n, k) => print_line(rt, code, n, k),
-        Listed::Refused(_) => println!(rt; "refused"),
+        Ok(listed) => print_line(rt, code, listed.cycles, listed.relaxed),
+        Err(_) => println!(rt; "refused"),
     }
 }
 

@@ -1,13 +1,13 @@
 -- What lies at the fronts of lent arrays once the batch of an input is decoded.
-use Rattle.std.specs.Prelude.{◌≡◌, cond, List, ℕ, ◌*◌, ltb, take}
-use Rattle.refusal.specs.Outcome.{Outcome, accepted, refused}
-use Rattle.refusal.specs.Numbers.{number_of}
+use Rattle.std.specs.Prelude.{◌≡◌, cond, List, ℕ, ◌*◌, Result, ltb, take}
+use Rattle.refusal.specs.Outcome.{Outcome}
+use Rattle.refusal.specs.Answers.{outcome_by}
+use Rattle.refusal.specs.declared.Refusal.{Refusal}
 use Rattle.batch.specs.Codes.{size_k}
 use Rattle.batch.specs.Calls.{written}
 use Rattle.batch_input.specs.Input.{code_of, pair_count}
 use Rattle.batch_input.specs.Handed.{batch_in}
 use Rattle.decoded_input.specs.declared.Decoded.{Decoded}
-use Rattle.decoded_input.specs.declared.Decoded.TheVariants.{Frames, Refused}
 
 -- how many frames have room in the outputs: of more than 24 none, and the batch refuses them as it refuses all
 abbrev pub held : ℕ → ℕ
@@ -21,9 +21,11 @@ pub record Sizes : Type 0 where
 abbrev pub sizes_of : List ℕ → Sizes
 sizes_of s = record { frames = pair_count s; bits = pair_count s * size_k (code_of s) }
 
-abbrev pub decoded_of : Decoded → Outcome Sizes
-decoded_of (Frames n bits) = accepted (record { frames = n; bits = bits })
-decoded_of (Refused r) = refused (number_of r)
+abbrev pub sizes_by : Decoded → Sizes
+sizes_by d = record { frames = d.frames; bits = d.bits }
+
+abbrev pub decoded_of : Result Decoded Refusal → Outcome Sizes
+decoded_of r = outcome_by sizes_by r
 
 -- what it writes: K bits and a number of each kind a frame
 pub record Fronts (s bits counts rounds firsts : List ℕ) : Type 0 where

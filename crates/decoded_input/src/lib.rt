@@ -3,14 +3,14 @@
 
 ghost use Rattle.std.specs.Prelude.{◌≡◌, false, ◌≤◌, length, take};
 ghost use Rattle.refusal.specs.Outcome.{accepted, judged};
-ghost use Rattle.refusal.specs.Answers.{status_of};
+ghost use Rattle.refusal.specs.Answers.{outcome_of};
 ghost use Rattle.batch.specs.Pairs.{pairs_of};
 ghost use Rattle.batch.specs.Calls.{lent, batch, refusals, Answered};
 ghost use Rattle.batch_input.specs.Input.{code_of, rule_of, limit_of, scale_of, pair_numbers, values_of, malformed};
 ghost use Rattle.batch_input.specs.Handed.{batch_in};
 ghost use Rattle.decoded_input.specs.Fronts.{held, sizes_of, decoded_of, Fronts};
 
-use refusal::{Refusal, Status};
+use refusal::Refusal;
 use work_area::WORK;
 
 // Room for the bits of 24 frames, and for a number a frame: each ensures its length alone.
@@ -44,13 +44,13 @@ fn decode_input(
     rounds: &mut [u16],
     firsts: &mut [u16],
     work: &mut [f32],
-) -> Status
+) -> Result<(), Refusal>
     requires { 12 ≤ length input.now }
     ensures { Answered
         (batch (code_of input.now) (rule_of input.now) (limit_of input.now) (scale_of input.now)
         values.now (pairs_of pairs.now)
         (lent bits.old counts.old rounds.old firsts.old work.old))
-        (status_of result)
+        (outcome_of result)
         (lent bits.new counts.new rounds.new firsts.new work.new) }
 {
     let head = batch_input::read_header(input);
@@ -60,11 +60,11 @@ fn decode_input(
     )
 }
 
-// What the batch of an input comes to: how many frames it has and how many bits they have, or its refusal.
-#[derive(Drop)]
-pub enum Decoded {
-    Frames(usize, usize),
-    Refused(Refusal),
+// What the batch of an input comes to: how many frames it has, and how many bits they have.
+#[derive(Clone, Copy, Debug, PartialEq, Eq)]
+pub struct Decoded {
+    pub frames: usize,
+    pub bits: usize,
 }
 
 // The batch of an input that is not malformed, its values and pairs read: what it writes lies at the fronts of the arrays.
@@ -76,7 +76,7 @@ pub fn decode_fronts(
     counts: &mut [u16],
     rounds: &mut [u16],
     firsts: &mut [u16],
-) -> Decoded
+) -> Result<Decoded, Refusal>
     requires input_value { malformed input.now ≡ false }
     requires values_value { (values.now ≡ values_of input.now) × (pairs.now ≡ take 50 (pair_numbers input.now)) }
     requires in_bounds { (9216 ≤ length bits.old) × (24 ≤ length counts.old) }
@@ -88,7 +88,7 @@ pub fn decode_fronts(
     let n = frames_held(batch_input::pair_count(input));
     let size = n * batch_refusals::message_bits(input[0] as u32);
     let mut work = [0.0f32; WORK];
-    if let Status::Refused(r) = decode_input(
+    decode_input(
         input,
         values,
         pairs,
@@ -97,8 +97,9 @@ pub fn decode_fronts(
         &mut rounds[..n],
         &mut firsts[..n],
         &mut work,
-    ) {
-        return Decoded::Refused(r);
-    }
-    Decoded::Frames(n, size)
+    )?;
+    Ok(Decoded {
+        frames: n,
+        bits: size,
+    })
 }

@@ -1,7 +1,8 @@
 -- The outside calls of the decoders: when each is refused, what it answers otherwise, and what it leaves in the memory lent to it.
-use Rattle.std.specs.Prelude.{◌≡◌, not, List, [], ◌∷◌, ℕ, eqb, ltb, Float, length}
-use Rattle.refusal.specs.Outcome.{Outcome, accepted, refused, Condition, ◌when◌, judged, kept}
-use Rattle.refusal.specs.Numbers.{number_of}
+use Rattle.std.specs.Prelude.{◌≡◌, not, List, [], ◌∷◌, ℕ, Result, eqb, ltb, Float, length}
+use Rattle.refusal.specs.Outcome.{Outcome, Condition, ◌when◌, judged, kept}
+use Rattle.refusal.specs.Answers.{outcome_by}
+use Rattle.refusal.specs.declared.Refusal.{Refusal}
 use Rattle.softmath.specs.declared.DecodeRule.TheVariants.{SumProduct, Ft8}
 use Rattle.construction.specs.Codes.{block_length}
 use Rattle.staircase.specs.Codes.{code_of}
@@ -11,13 +12,11 @@ use Rattle.rounds.specs.Told.{Told, told, told_by}
 use Rattle.work_area.specs.Area.{cleared}
 use Rattle.rules.specs.Rules.{staircase_rule}
 use Rattle.decoders.specs.Decodes.{staircase_decode, ft8_decode}
-use Rattle.decoders.specs.declared.Decoding.{Decoding}
-use Rattle.decoders.specs.declared.Decoding.TheVariants.{Decoded, Refused}
+use Rattle.rounds.specs.declared.Decoded.{Decoded}
 
 -- an answer of a decoder: the count, the rounds run and the first unsatisfied check
-abbrev pub decoding_of : Decoding → Outcome Told
-decoding_of (Decoded d) = accepted (told_by d)
-decoding_of (Refused r) = refused (number_of r)
+abbrev pub decoding_of : Result Decoded Refusal → Outcome Told
+decoding_of r = outcome_by told_by r
 
 -- ---- a single decode as it is handed over
 

@@ -1,18 +1,12 @@
-// The soft decoders of the staircase codes and of (174,91): the round loop of `belief` at each code's number.
+// The soft decoders of the staircase codes and of (174,91): the round loop of `belief` at each code.
 #![tactic(auto)]
 
 ghost use Rattle.decoders.specs.Calls.{decoding_of, Answered, soft_with, soft, ft8_soft};
 
+use numbered::Code;
 use refusal::Refusal;
 use rounds::Decoded;
 use softmath::DecodeRule;
-
-// The answer of a decoder: what is told beside the bits.
-#[derive(Drop)]
-pub enum Decoding {
-    Decoded(Decoded),
-    Refused(Refusal),
-}
 
 // A staircase decode by the rule with that number, which is `decode_soft_with`.
 pub fn decode_soft_with(
@@ -23,30 +17,30 @@ pub fn decode_soft_with(
     llr: &[f32],
     bits: &mut [u8],
     work: &mut [f32],
-) -> Decoding
+) -> Result<Decoded, Refusal>
     ensures { Answered (soft_with code rule scale limit llr.now bits.old work.old)
         (decoding_of result) bits.new work.new }
 {
     if code >= 3 {
-        return Decoding::Refused(Refusal::UnknownCode);
+        return Err(Refusal::UnknownCode);
     }
     if rule > 4 {
-        return Decoding::Refused(Refusal::UnknownRule);
+        return Err(Refusal::UnknownRule);
     }
     if rule == 4 {
-        return Decoding::Refused(Refusal::RuleNotOfCode);
+        return Err(Refusal::RuleNotOfCode);
     }
     if llr.len() != ldpc_codes::values_of(code) {
-        return Decoding::Refused(Refusal::InputLength);
+        return Err(Refusal::InputLength);
     }
     if bits.len() != ldpc_codes::bits_of(code) {
-        return Decoding::Refused(Refusal::OutputLength);
+        return Err(Refusal::OutputLength);
     }
     if work.len() < work_area::WORK {
-        return Decoding::Refused(Refusal::WorkTooShort);
+        return Err(Refusal::WorkTooShort);
     }
-    Decoding::Decoded(belief::decode(
-        code,
+    Ok(belief::decode(
+        Code::of_number(code),
         rules::staircase_rule(rule, scale),
         limit,
         llr,
@@ -62,7 +56,7 @@ pub fn decode_soft(
     llr: &[f32],
     bits: &mut [u8],
     work: &mut [f32],
-) -> Decoding
+) -> Result<Decoded, Refusal>
     ensures { Answered (soft code limit llr.now bits.old work.old)
         (decoding_of result) bits.new work.new }
 {
@@ -70,18 +64,23 @@ pub fn decode_soft(
 }
 
 // A (174,91) decode by its own check step, all 174 bits.
-pub fn ldpc_decode_soft(llr: &[f32], limit: u16, plain: &mut [u8], work: &mut [f32]) -> Decoding
+pub fn ldpc_decode_soft(
+    llr: &[f32],
+    limit: u16,
+    plain: &mut [u8],
+    work: &mut [f32],
+) -> Result<Decoded, Refusal>
     ensures { Answered (ft8_soft llr.now limit plain.old work.old)
         (decoding_of result) plain.new work.new }
 {
     if llr.len() != ldpc::N {
-        return Decoding::Refused(Refusal::InputLength);
+        return Err(Refusal::InputLength);
     }
     if plain.len() != ldpc::N {
-        return Decoding::Refused(Refusal::OutputLength);
+        return Err(Refusal::OutputLength);
     }
     if work.len() < work_area::WORK {
-        return Decoding::Refused(Refusal::WorkTooShort);
+        return Err(Refusal::WorkTooShort);
     }
-    Decoding::Decoded(belief::decode(3, DecodeRule::Ft8, limit, llr, plain, work))
+    Ok(belief::decode(Code::Ft8, DecodeRule::Ft8, limit, llr, plain, work))
 }

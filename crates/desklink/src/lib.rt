@@ -282,7 +282,7 @@ pub extern "C" fn desklink_frame_clean_unguarded(
         ≡ coded (judged (frame_refusals code values.now bits.now)
         (clean_number code values.now count bits.now)) }
 {
-    coded::answer_code(clean_frames::frame_clean(code, values, count, bits))
+    coded::flag_code(clean_frames::frame_clean(code, values, count, bits))
 }
 
 // ---- why a frame is open

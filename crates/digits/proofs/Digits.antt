@@ -1,11 +1,10 @@
 -- The digits of a number, a weight at a time; their number; what they say when they are read back. By induction over the weights.
 use mathlib.Core.Path.{◌≡◌, refl}
 use mathlib.Core.List.{List, [], ◌∷◌, ◌++◌}
-use Prim.Native.Nat.{ℕ, zero, suc, ◌+◌, ◌-◌, ◌/◌, ◌%◌, ◌^◌, ◌≤◌, ◌<◌}
-use native.Mathlib.Nat.{pow-suc, mul-div_cancel}
+use Prim.Native.Nat.{ℕ, zero, suc, ◌+◌, ◌-◌, ◌%◌, ◌^◌, ◌≤◌, ◌<◌}
 use native.Mathlib.Numerals.{sub-one}
 use native.Mathlib.Omega.{arith}
-use lib.Dec.{lit<, lit≤}
+use lib.Dec.{lit≤}
 use lib.ListN.{length, length-append}
 use Rattle.text.specs.Text.{leading, decimal}
 use Rattle.text.proofs.Lengths.{leading_short}
@@ -14,24 +13,19 @@ use Rattle.digits.specs.Digits.{digits_from, digits, numbered}
 
 -- ---- a turn
 
--- the weight after a weight
-pub weight_next : (k : ℕ) → 0 < k → 10 ^ k / 10 ≡ 10 ^ (k - 1)
-weight_next zero h = absurd (omega arith)
-weight_next (suc k) h = rw (pow-suc 10 k, mul-div_cancel (10 ^ k) {n = 10} (lit< tt), sub-one (suc k))
-
 pub digits_more : (k p n : ℕ) → 0 < k → p ≡ 10 ^ k → digits_from k n ≡ leading p n ++ digits_from (k - 1) n
 unfolding digits_from
 digits_more zero p n h e = absurd (omega arith)
 digits_more (suc k) p n h e = rw (sub-one (suc k), e)
 
 -- with the digits of the weights that are left to put: in a turn that of this weight comes first of them, and after the turns the last digit is left
-module _ (out : List ℕ) (at : ℕ) (text now : List ℕ) (next k p n : ℕ) (left : Left out at text now next (digits_from k n)) where
-  pub left_turn : 0 < k → p ≡ 10 ^ k → Left out at text now next (leading p n ++ digits_from (k - 1) n)
-  left_turn h e = rw (digits_more k p n h e) at left
+module _ (out : List ℕ) (at : ℕ) (text now : List ℕ) (next k n : ℕ) (left : Left out at text now next (digits_from k n)) where
+  pub left_turn : (p : ℕ) → 0 < k → p ≡ 10 ^ k → Left out at text now next (leading p n ++ digits_from (k - 1) n)
+  left_turn p h e = rw (digits_more k p n h e) at left
 
-  pub turn_fits : 0 < k → p ≡ 10 ^ k → at + length text ≤ length out → next + length (leading p n) ≤ length now
-  turn_fits h e room =
-      let l = left_turn h e in
+  pub turn_fits : (p : ℕ) → 0 < k → p ≡ 10 ^ k → at + length text ≤ length out → next + length (leading p n) ≤ length now
+  turn_fits p h e room =
+      let l = left_turn p h e in
       omega (arith, room, l.end, l.size, length-append (leading p n) (digits_from (k - 1) n))
 
   pub left_last : k ≤ 0 → Left out at text now next ((48 + n % 10) ∷ [])

@@ -2,20 +2,18 @@
 #![tactic(auto)]
 
 ghost use Rattle.std.specs.Prelude.{◌≡◌, map};
-ghost use Rattle.softmath.specs.Single.{◌⊘◌};
-ghost use Rattle.softmath.specs.Functions.{tanh};
-ghost use Rattle.softmath.specs.CheckNode.{clamped_answer, negated_answer, before, after};
+ghost use Rattle.std.specs.List.{AllZip};
+ghost use Rattle.softmath.specs.CheckNode.{before, after};
 
 use softmath::DecodeRule;
 
-// The tanh of each message over the divisor.
-fn tanh_over(divisor: f32, part: &mut [f32])
-    ensures { part.new ≡ map (λ m. tanh (m ⊘ divisor)) part.old }
+// Each value of the part replaced by what `f` makes of it.
+fn map_in_place<F: Fn(f32) -> f32>(part: &mut [f32], f: F)
+    requires { F.IsAlwaysCallable f }
+    ensures { AllZip (F.post f) part.old part.new }
 {
-    let mut i = 0;
-    while i < part.len() {
-        part[i] = softmath::fast_tanh(part[i] / divisor);
-        i += 1;
+    for x in part.iter_mut() {
+        *x = f(*x);
     }
 }
 
@@ -24,51 +22,24 @@ pub fn before_checks(rule: DecodeRule, part: &mut [f32])
     ensures { part.new ≡ map (before rule) part.old }
 {
     match rule {
-        DecodeRule::SumProduct => {
-            tanh_over(2.0, part);
-        }
-        DecodeRule::Ft8 => {
-            tanh_over(-2.0, part);
-        }
-        DecodeRule::MinSum => {}
-        DecodeRule::ScaledMinSum(_) => {}
+        DecodeRule::SumProduct => map_in_place(part, |m| softmath::fast_tanh(m / 2.0)),
+        DecodeRule::Ft8 => map_in_place(part, |m| softmath::fast_tanh(m / -2.0)),
+        DecodeRule::MinSum | DecodeRule::ScaledMinSum(_) => {}
     }
 }
 
-// 2.0 times the atanh of each product, clamped.
-fn clamped_answers(part: &mut [f32])
-    ensures { part.new ≡ map clamped_answer part.old }
-{
-    let mut i = 0;
-    while i < part.len() {
-        part[i] = 2.0 * softmath::fast_atanh(softmath::clamp_unit(part[i]));
-        i += 1;
-    }
-}
-
-// -2.0 times the atanh of each product.
-fn negated_answers(part: &mut [f32])
-    ensures { part.new ≡ map negated_answer part.old }
-{
-    let mut i = 0;
-    while i < part.len() {
-        part[i] = -2.0 * softmath::fast_atanh(part[i]);
-        i += 1;
-    }
-}
-
-// What a rule does to each answer by itself, after the checks: any part of the work area.
+// What a rule does to each answer by itself, after the checks: any part of the work area. Only the sum-product rule clamps a product.
 pub fn after_checks(rule: DecodeRule, part: &mut [f32])
     ensures { part.new ≡ map (after rule) part.old }
 {
     match rule {
         DecodeRule::SumProduct => {
-            clamped_answers(part);
+            map_in_place(
+                part,
+                |p| 2.0 * softmath::fast_atanh(softmath::clamp_unit(p)),
+            );
         }
-        DecodeRule::Ft8 => {
-            negated_answers(part);
-        }
-        DecodeRule::MinSum => {}
-        DecodeRule::ScaledMinSum(_) => {}
+        DecodeRule::Ft8 => map_in_place(part, |p| -2.0 * softmath::fast_atanh(p)),
+        DecodeRule::MinSum | DecodeRule::ScaledMinSum(_) => {}
     }
 }

@@ -5,11 +5,11 @@ ghost use Rattle.std.specs.Prelude.{◌+◌, ◌≤◌, length};
 ghost use Rattle.text.specs.Written.{Written};
 ghost use Rattle.figure_lines.specs.Lines.{sums_text, fraction_text, figures_text, totals_line, file_line};
 
-use figures::{Figure, Totals};
+use figures::{Fraction, Totals};
 use refusal::Refusal;
 
 // Why a file is not counted.
-#[derive(Drop)]
+#[derive(Clone, Copy, Debug, PartialEq, Eq)]
 pub enum Reason {
     Refused(Refusal),
     Unreadable,
@@ -53,10 +53,22 @@ pub fn totals_line(out: &mut [u8], at: usize, t: Totals) -> usize
     requires { at + 206 ≤ length out.old }
     ensures { Written out.old at (totals_line t) out.new result }
 {
-    let Figure::Fraction(a, b) = figures::clean_share(t) else {
+    let Ok(
+        Fraction {
+            numerator: a,
+            denominator: b,
+        },
+    ) = figures::clean_share(t)
+    else {
         return text::refusal_line(out, at, 15);
     };
-    let Figure::Fraction(d, e) = figures::mean_count(t) else {
+    let Ok(
+        Fraction {
+            numerator: d,
+            denominator: e,
+        },
+    ) = figures::mean_count(t)
+    else {
         return text::refusal_line(out, at, 15);
     };
     put_figures(out, at, t, a, b, d, e)
@@ -73,7 +85,7 @@ pub fn file_line(out: &mut [u8], at: usize, place: u64, reason: Reason) -> usize
     match reason {
         Reason::Refused(r) => {
             let b = text::put_byte(out, a, 32);
-            text::refusal_line(out, b, refusal::number(r) as u16)
+            text::refusal_line(out, b, u16::from(r))
         }
         Reason::Unreadable => {
             let b = text::put_text(out, a, b" unreadable");

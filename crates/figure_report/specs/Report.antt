@@ -1,5 +1,6 @@
 -- What `batchfigures` prints for its files (change request N5): a line for each file that is not counted, and then the line of the total.
-use Rattle.std.specs.Prelude.{◌≡◌, Bool, true, false, List, [], ◌∷◌, ◌++◌, ℕ, suc, ◌≤◌}
+use denote.Ref.{Bor}
+use Rattle.std.specs.Prelude.{◌≡◌, Option, Some, None, List, [], ◌∷◌, ◌++◌, ℕ, suc, ◌≤◌}
 use Rattle.refusal.specs.Outcome.{Outcome, accepted, refused}
 use Rattle.text.specs.Written.{Written}
 use Rattle.figures.specs.Totals.{Frame, totals_of, nothing_yet}
@@ -16,9 +17,9 @@ pub data File : Type 0 where
   bytes : List ℕ → File
   unread : File
 
-abbrev pub file_of : Bool → List ℕ → File
-file_of true s = bytes s
-file_of false s = unread
+abbrev pub file_of : Option (Bor (List ℕ)) → File
+file_of (Some s) = bytes s.now
+file_of None = unread
 
 -- a file whose batch is added changes the total; one that is refused "is not counted", and leaves it "as before"
 abbrev pub total_or : Totals → Outcome Totals → Totals

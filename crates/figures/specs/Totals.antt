@@ -1,21 +1,19 @@
 -- Totals over frames, and what is asked of them.
-use Rattle.std.specs.Prelude.{Bool, cond, List, [], ◌∷◌, ℕ, ◌+◌, eqb, ltb}
+use Rattle.std.specs.Prelude.{Bool, cond, List, [], ◌∷◌, ℕ, ◌+◌, eqb, ltb, Result, Ok, Err}
 use Rattle.refusal.specs.Outcome.{Outcome, accepted, refused, Condition, ◌when◌}
 use Rattle.refusal.specs.Numbers.{number_of}
-use Rattle.figures.specs.Fraction.{Fraction}
+use Rattle.refusal.specs.declared.Refusal.{Refusal}
+use Rattle.figures.specs.Fraction as terms
 use Rattle.figures.specs.declared.Totals.{Totals}
-use Rattle.figures.specs.declared.Summed.{Summed}
-use Rattle.figures.specs.declared.Summed.TheVariants as summed
-use Rattle.figures.specs.declared.Figure.{Figure}
-use Rattle.figures.specs.declared.Figure.TheVariants as figure
+use Rattle.figures.specs.declared.Fraction.{Fraction}
 
-abbrev pub summed_of : Summed → Outcome Totals
-summed_of (summed.Is t) = accepted t
-summed_of (summed.Refused r) = refused (number_of r)
+abbrev pub summed_of : Result Totals Refusal → Outcome Totals
+summed_of (Ok t) = accepted t
+summed_of (Err r) = refused (number_of r)
 
-abbrev pub figure_of : Figure → Outcome Fraction
-figure_of (figure.Fraction n d) = accepted (record { over = n; under = d })
-figure_of (figure.Refused r) = refused (number_of r)
+abbrev pub figure_of : Result Fraction Refusal → Outcome terms.Fraction
+figure_of (Ok f) = accepted (record { over = f.numerator; under = f.denominator })
+figure_of (Err r) = refused (number_of r)
 
 -- "14 when a sum would pass its limit"
 abbrev pub passed : ℕ → ℕ → ℕ → Bool

@@ -9,7 +9,7 @@ ghost use Rattle.figures.specs.Totals.{summed_of, figure_of, passed, join_refusa
 use refusal::Refusal;
 
 // What is kept of some frames.
-#[derive(Clone, Copy)]
+#[derive(Clone, Copy, Debug, PartialEq, Eq)]
 pub struct Totals {
     pub frames: u32,
     pub clean: u64,
@@ -17,18 +17,11 @@ pub struct Totals {
     pub rounds: u64,
 }
 
-// The answer of a sum: new totals, or a refusal, after which the old ones stand.
-#[derive(Clone, Copy)]
-pub enum Summed {
-    Is(Totals),
-    Refused(Refusal),
-}
-
-// The answer of a figure: a numerator and a denominator, or a refusal.
-#[derive(Clone, Copy)]
-pub enum Figure {
-    Fraction(u64, u64),
-    Refused(Refusal),
+// A figure.
+#[derive(Clone, Copy, Debug, PartialEq, Eq)]
+pub struct Fraction {
+    pub numerator: u64,
+    pub denominator: u64,
 }
 
 // ---- totals
@@ -37,29 +30,21 @@ pub enum Figure {
 fn passes(a: u64, b: u64, limit: u64) -> bool
     ensures { result ≡ passed a b limit }
 {
-    if a > limit {
-        return true;
-    }
-    b > limit - a
+    a > limit || b > limit - a
 }
 
-// The totals of the frames of both.
-pub fn join(a: Totals, b: Totals) -> Summed
+// The totals of the frames of both, or a refusal, after which the old ones stand.
+pub fn join(a: Totals, b: Totals) -> Result<Totals, Refusal>
     ensures { summed_of result ≡ judged (join_refusals a b) (sums a b) }
 {
-    if passes(a.frames as u64, b.frames as u64, 0xFFFF_FFFF) {
-        return Summed::Refused(Refusal::SumPastLimit);
+    if passes(a.frames as u64, b.frames as u64, 0xFFFF_FFFF)
+        || passes(a.clean, b.clean, u64::MAX)
+        || passes(a.counts, b.counts, u64::MAX)
+        || passes(a.rounds, b.rounds, u64::MAX)
+    {
+        return Err(Refusal::SumPastLimit);
     }
-    if passes(a.clean, b.clean, 0xFFFF_FFFF_FFFF_FFFF) {
-        return Summed::Refused(Refusal::SumPastLimit);
-    }
-    if passes(a.counts, b.counts, 0xFFFF_FFFF_FFFF_FFFF) {
-        return Summed::Refused(Refusal::SumPastLimit);
-    }
-    if passes(a.rounds, b.rounds, 0xFFFF_FFFF_FFFF_FFFF) {
-        return Summed::Refused(Refusal::SumPastLimit);
-    }
-    Summed::Is(Totals {
+    Ok(Totals {
         frames: a.frames + b.frames,
         clean: a.clean + b.clean,
         counts: a.counts + b.counts,
@@ -71,10 +56,9 @@ pub fn join(a: Totals, b: Totals) -> Summed
 pub fn of_frame(count: u16, rounds: u16, clean: bool) -> Totals
     ensures { result ≡ of_frame count rounds clean }
 {
-    let one: u64 = if clean { 1 } else { 0 };
     Totals {
         frames: 1,
-        clean: one,
+        clean: u64::from(clean),
         counts: count as u64,
         rounds: rounds as u64,
     }
@@ -97,27 +81,30 @@ fn gcd(a: u64, b: u64) -> u64
 }
 
 // A number of so many frames, as a fraction in lowest terms.
-fn fraction(n: u64, frames: u32) -> Figure
+fn fraction_of(n: u64, frames: u32) -> Result<Fraction, Refusal>
     ensures { figure_of result ≡ judged (fraction_refusals frames) (lowest n frames) }
 {
     if frames == 0 {
-        return Figure::Refused(Refusal::NoFrames);
+        return Err(Refusal::NoFrames);
     }
     let d = frames as u64;
     let g = gcd(n, d);
-    Figure::Fraction(n / g, d / g)
+    Ok(Fraction {
+        numerator: n / g,
+        denominator: d / g,
+    })
 }
 
 // The share of clean frames.
-pub fn clean_share(t: Totals) -> Figure
+pub fn clean_share(t: Totals) -> Result<Fraction, Refusal>
     ensures { figure_of result ≡ judged (fraction_refusals t.frames) (lowest t.clean t.frames) }
 {
-    fraction(t.clean, t.frames)
+    fraction_of(t.clean, t.frames)
 }
 
 // The mean count of a frame.
-pub fn mean_count(t: Totals) -> Figure
+pub fn mean_count(t: Totals) -> Result<Fraction, Refusal>
     ensures { figure_of result ≡ judged (fraction_refusals t.frames) (lowest t.counts t.frames) }
 {
-    fraction(t.counts, t.frames)
+    fraction_of(t.counts, t.frames)
 }

@@ -1,14 +1,13 @@
 -- A word to be mended, over any check list (change request N7): when it is refused, and what is answered and left.
-use Rattle.std.specs.Prelude.{◌≡◌, Bool, false, not, ◌||◌, List, [], ◌∷◌, ℕ, eqb, ltb, length}
+use Rattle.std.specs.Prelude.{◌≡◌, Bool, false, not, ◌||◌, List, [], ◌∷◌, ℕ, Option, Some, None, eqb, ltb, length}
 use Rattle.refusal.specs.Outcome.{Condition, ◌when◌, Outcome, judged, kept}
 use Rattle.tanner.specs.Checks.{Word, Checks}
 use Rattle.filling.specs.Filling.{Setting, none, at, filled_word, filled_places, listed}
-use Rattle.filling.specs.declared.Next.{Next}
-use Rattle.filling.specs.declared.Next.TheVariants.{Nothing, At}
+use Rattle.filling.specs.declared.Setting as code
 
-abbrev pub next_of : Next → Setting
-next_of Nothing = none
-next_of (At p b) = at p b
+abbrev pub next_of : Option code.Setting → Setting
+next_of None = none
+next_of (Some s) = at s.at s.bit
 
 -- "a byte is above 2"
 unfoldable pub above_two : Word → Bool

@@ -2,74 +2,68 @@
 #![tactic(auto)]
 
 ghost use Rattle.std.specs.Prelude.{◌≡◌, ◌<◌, length};
-ghost use Rattle.refusal.specs.Answers.{answer_of};
+ghost use Rattle.refusal.specs.Answers.{outcome_of};
 ghost use Rattle.tanner.specs.Flat.{FlatChecks, rows_of};
 ghost use Rattle.lists.specs.Below.{Below};
 ghost use Rattle.filling.specs.Filling.{setting_in, lowest, filled_word, filled_places, listed};
 ghost use Rattle.filling.specs.Calls.{next_of, above_two, word_refusals, FilledAs};
 
-use refusal::{Answer, Refusal};
+use refusal::Refusal;
 
-// What is set next: nothing, or a position and its bit.
-#[derive(Drop)]
-pub enum Next {
-    Nothing,
-    At(u16, u8),
+// What is set next: a position, and its bit.
+#[derive(Clone, Copy, Debug, PartialEq, Eq)]
+pub struct Setting {
+    pub at: u16,
+    pub bit: u8,
 }
 
 // Whether a byte is above 2.
 fn above_two(word: &[u8]) -> bool
     ensures { result ≡ above_two word.now }
 {
-    let mut i = 0;
-    while i < word.len() {
-        if word[i] > 2 {
+    for &b in word {
+        if b > 2 {
             return true;
         }
-        i += 1;
     }
     false
 }
 
 // The unknown bit of a check that has exactly one. All its bytes are XORed: the unknown one is 2, and has no part in the low bit.
-fn next_in(positions: &[u16], word: &[u8]) -> Next
+fn next_in(positions: &[u16], word: &[u8]) -> Option<Setting>
     requires { Below (length word.now) positions.now }
     ensures { next_of result ≡ setting_in positions.now word.now }
 {
     let mut unknowns: usize = 0;
     let mut at: u16 = 0;
     let mut odd: u8 = 0;
-    let mut i = 0;
-    while i < positions.len() {
-        let p = positions[i] as usize;
-        if word[p] == 2 {
+    for &p in positions {
+        let b = word[p as usize];
+        if b == 2 {
             unknowns += 1;
-            at = positions[i];
+            at = p;
         }
-        odd = odd ^ word[p];
-        i += 1;
+        odd ^= b;
     }
     if unknowns == 1 {
-        return Next::At(at, odd % 2);
+        return Some(Setting { at, bit: odd % 2 });
     }
-    Next::Nothing
+    None
 }
 
 // The unknown bit of the lowest-numbered check that has exactly one.
-fn next_setting(starts: &[u16], flat: &[u16], word: &[u8]) -> Next
+fn next_setting(starts: &[u16], flat: &[u16], word: &[u8]) -> Option<Setting>
     requires { FlatChecks starts.now flat.now (length word.now) }
     ensures { next_of result ≡ lowest (rows_of starts.now flat.now) word.now }
 {
-    let mut c = 0;
-    while c + 1 < starts.len() {
+    for c in 0..starts.len() - 1 {
         let a = starts[c] as usize;
         let b = starts[c + 1] as usize;
-        if let Next::At(p, bit) = next_in(&flat[a..b], word) {
-            return Next::At(p, bit);
+        if let Some(next) = next_in(&flat[a..b], word) {
+            return Some(next);
         }
-        c += 1;
     }
-    Next::Nothing
+    None
 }
 
 // Sets one bit after another, and lists their positions.
@@ -81,17 +75,15 @@ fn fill(starts: &[u16], flat: &[u16], word: &mut [u8], places: &mut [u16]) -> u1
     ensures word_after { word.new ≡ filled_word (rows_of starts.now flat.now) word.old }
     ensures places_after { places.new ≡ listed (filled_places (rows_of starts.now flat.now) word.old) places.old }
 {
-    let mut n = 0;
-    while n < places.len() {
-        let Next::At(p, bit) = next_setting(starts, flat, word) else {
+    for n in 0..places.len() {
+        let Some(next) = next_setting(starts, flat, word) else {
             return n as u16;
         };
-        let at = p as usize;
-        word[at] = bit;
-        places[n] = p;
-        n += 1;
+        let at = next.at as usize;
+        word[at] = next.bit;
+        places[n] = next.at;
     }
-    n as u16
+    places.len() as u16
 }
 
 // A word of a code of length n, with the lengths and the bytes tested.
@@ -101,20 +93,20 @@ pub fn fill_over(
     n: usize,
     word: &mut [u8],
     places: &mut [u16],
-) -> Answer
+) -> Result<u16, Refusal>
     requires flat_checks { FlatChecks starts.now flat.now n }
     requires n_bound { n < 65536 }
     ensures { FilledAs (word_refusals n word.old places.old) (rows_of starts.now flat.now)
-        word.old places.old (answer_of result) word.new places.new }
+        word.old places.old (outcome_of result) word.new places.new }
 {
     if word.len() != n {
-        return Answer::Refused(Refusal::InputLength);
+        return Err(Refusal::InputLength);
     }
     if places.len() != n {
-        return Answer::Refused(Refusal::OutputLength);
+        return Err(Refusal::OutputLength);
     }
     if above_two(word) {
-        return Answer::Refused(Refusal::ErasureByte);
+        return Err(Refusal::ErasureByte);
     }
-    Answer::Value(fill(starts, flat, word, places))
+    Ok(fill(starts, flat, word, places))
 }

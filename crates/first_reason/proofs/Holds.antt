@@ -1,5 +1,6 @@
 -- The reason that is found holds of the frame, and no earlier one does; it is `Clean` exactly for a frame that is clean by change request N2.
 -- By cases on what each test finds. Assumes nothing.
+use Rattle.std.proofs.Common.{Option, Some, None}
 use mathlib.Core.Path.{◌≡◌, refl, sym}
 use mathlib.Core.Bool.{Bool, true, false, not, cond, ◌&&◌, ◌||◌}
 use mathlib.Core.List.{List, [], ◌∷◌}
@@ -17,8 +18,6 @@ use Rattle.numbered.specs.Codes.{size_k}
 use Rattle.clean.specs.Clean.{any_nan, payload_checksum, carried_checksum, checksum_right, frame_clean}
 use Rattle.first_reason.specs.declared.Reason.{Reason}
 use Rattle.first_reason.specs.declared.Reason.TheVariants.{Checksum, Clean}
-use Rattle.first_reason.specs.declared.FirstNan.{FirstNan}
-use Rattle.first_reason.specs.declared.FirstNan.TheVariants.{At, Absent}
 use Rattle.numbered.specs.Codes.{checks_by}
 use Rattle.first_reason.specs.Reasons.{first_nan, nan_or, check_or, checksum_or, reason_for}
 use Rattle.first_reason.specs.Holds.{LowestNan, NoNan, AllSatisfied, IsClean, Holds, by_nan, by_check, by_checksum, is_clean}
@@ -26,16 +25,16 @@ use Rattle.first_reason.specs.Holds.{LowestNan, NoNan, AllSatisfied, IsClean, Ho
 -- ---- the lowest NaN
 
 -- what is found of values whose first is at position p
-data Finds (p : ℕ) (values : List Float) : FirstNan → Type 0 where
-  found : (i : ℕ) → LowestNan values i → Finds p values (At (p + i))
-  absent : NoNan values → Finds p values Absent
+data Finds (p : ℕ) (values : List Float) : Option ℕ → Type 0 where
+  found : (i : ℕ) → LowestNan values i → Finds p values (Some (p + i))
+  absent : NoNan values → Finds p values None
 
 below_more : (v : Float) (vs : List Float) (i : ℕ) → is_nan v ≡ false → ((j : ℕ) → j < i → is_nan (get_or vs j nan) ≡ false)
     → (j : ℕ) → j < suc i → is_nan (get_or (v ∷ vs) j nan) ≡ false
 below_more v vs i e below zero h = e
 below_more v vs i e below (suc j) h = below j (omega arith)
 
-one_more : (p : ℕ) (v : Float) (vs : List Float) → is_nan v ≡ false → {f : FirstNan} → Finds (suc p) vs f → Finds p (v ∷ vs) f
+one_more : (p : ℕ) (v : Float) (vs : List Float) → is_nan v ≡ false → {f : Option ℕ} → Finds (suc p) vs f → Finds p (v ∷ vs) f
 one_more p v vs e (found i l) =
     let place : suc p + i ≡ p + suc i = omega arith in
     rw place (found (suc i) (record { inside = omega (arith, l.inside); there = l.there; below = below_more v vs i e l.below }))
@@ -46,19 +45,19 @@ unfolding first_nan
 finds p [] = absent (λ j h. absurd (omega arith))
 finds p (v ∷ vs) = by (is_nan v) refl (finds (suc p) vs)
   where
-    by : (t : Bool) → is_nan v ≡ t → Finds (suc p) vs (first_nan (suc p) vs) → Finds p (v ∷ vs) (cond t (At p) (first_nan (suc p) vs))
+    by : (t : Bool) → is_nan v ≡ t → Finds (suc p) vs (first_nan (suc p) vs) → Finds p (v ∷ vs) (cond t (Some p) (first_nan (suc p) vs))
     by true e f =
-        let here : Finds p (v ∷ vs) (At (p + 0)) = found 0 (record { inside = omega arith; there = e; below = λ j h. absurd (omega arith) }) in
+        let here : Finds p (v ∷ vs) (Some (p + 0)) = found 0 (record { inside = omega arith; there = e; below = λ j h. absurd (omega arith) }) in
         rw (add-zero p) at here
     by false e f = one_more p v vs e f
 
 -- none exactly where no value is NaN
-any_absent : (p : ℕ) (vs : List Float) → any_nan vs ≡ false → first_nan p vs ≡ Absent
+any_absent : (p : ℕ) (vs : List Float) → any_nan vs ≡ false → first_nan p vs ≡ None
 unfolding any_nan first_nan
 any_absent p [] e = refl
 any_absent p (v ∷ vs) e = by (is_nan v) e (any_absent (suc p) vs)
   where
-    by : (t : Bool) → (t || any_nan vs) ≡ false → (any_nan vs ≡ false → first_nan (suc p) vs ≡ Absent) → cond t (At p) (first_nan (suc p) vs) ≡ Absent
+    by : (t : Bool) → (t || any_nan vs) ≡ false → (any_nan vs ≡ false → first_nan (suc p) vs ≡ None) → cond t (Some p) (first_nan (suc p) vs) ≡ None
     by true q further = cc
     by false q further = further q
 
@@ -98,7 +97,7 @@ module _ (code : ℕ) (values : List Float) (word : Word) where
   by-check all _ e (counted c h n below) = by_check c all (counted c h n below)
   by-check all _ e (satisfied each) = by-checksum all e (satisfied each) (not (eqb code 3) || checksum_right bits) refl
 
-  by-nan : {f : FirstNan} → Finds 0 values f → Holds code values word (nan_or f (check_or first (checksum_or code bits Clean)))
+  by-nan : {f : Option ℕ} → Finds 0 values f → Holds code values word (nan_or f (check_or first (checksum_or code bits Clean)))
   by-nan (found i l) = rw (zero-add i) (by_nan i l)
   by-nan (absent all) = by-check all first refl (first-is (λ r. parity r word) (checks_by code))
 

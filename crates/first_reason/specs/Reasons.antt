@@ -1,24 +1,22 @@
 -- Why a frame is open (change request N11): "the first that applies: `nan` and the lowest such position within the frame; `check`, the lowest unsatisfied
 -- check's number, ..; `checksum`, the carried and the computed value, ..; otherwise `clean`."
-use Rattle.std.specs.Prelude.{not, cond, ◌||◌, List, [], ◌∷◌, ℕ, suc, eqb, Float, take}
+use Rattle.std.specs.Prelude.{not, cond, ◌||◌, List, [], ◌∷◌, ℕ, suc, Option, Some, None, eqb, Float, take}
 use Rattle.std.specs.Float.Ieee.{is_nan}
 use Rattle.tanner.specs.Checks.{Word, First, check, none, first_unsatisfied}
 use Rattle.numbered.specs.Codes.{size_k, checks_by}
 use Rattle.clean.specs.Clean.{payload_checksum, carried_checksum, checksum_right}
 use Rattle.first_reason.specs.declared.Reason.{Reason}
 use Rattle.first_reason.specs.declared.Reason.TheVariants.{Nan, Check, Checksum, Clean}
-use Rattle.first_reason.specs.declared.FirstNan.{FirstNan}
-use Rattle.first_reason.specs.declared.FirstNan.TheVariants.{At, Absent}
 
 -- the lowest position of a NaN; the first of the values is at position p
-unfoldable pub first_nan : ℕ → List Float → FirstNan
-first_nan p [] = Absent
-first_nan p (v ∷ vs) = let more = first_nan (suc p) vs in cond (is_nan v) (At p) more
+unfoldable pub first_nan : ℕ → List Float → Option ℕ
+first_nan p [] = None
+first_nan p (v ∷ vs) = let more = first_nan (suc p) vs in cond (is_nan v) (Some p) more
 
 -- "`nan` and the lowest such position within the frame", or what else applies
-abbrev pub nan_or : FirstNan → Reason → Reason
-nan_or (At p) r = Nan p
-nan_or Absent r = r
+abbrev pub nan_or : Option ℕ → Reason → Reason
+nan_or (Some p) r = Nan p
+nan_or None r = r
 
 -- "`check`, the lowest unsatisfied check's number"
 abbrev pub check_or : First → Reason → Reason

@@ -6,11 +6,9 @@ ghost use Rattle.tanner.specs.Found.{first_of};
 ghost use Rattle.numbered.specs.Codes.{size_k};
 ghost use Rattle.first_reason.specs.Reasons.{first_nan, nan_or, check_or, checksum_or};
 
-use tanner::FirstCheck;
-
 // The first reason that applies: the lowest position of a NaN; the lowest unsatisfied check; for code 3 the checksum that the bits carry and the one
 // computed of them, where they differ; otherwise the frame is clean.
-#[derive(Clone, Copy)]
+#[derive(Clone, Copy, Debug, PartialEq, Eq)]
 pub enum Reason {
     Nan(u16),
     Check(u16),
@@ -18,27 +16,17 @@ pub enum Reason {
     Clean,
 }
 
-// The lowest position of a NaN, unless there is none.
-#[derive(Clone, Copy)]
-pub enum FirstNan {
-    At(u16),
-    Absent,
-}
-
-// A NaN alone differs from itself.
-fn first_nan(values: &[f32]) -> FirstNan
+// The lowest position of a NaN, if there is one.
+fn first_nan(values: &[f32]) -> Option<u16>
     requires { length values.now ≤ 65536 }
     ensures { result ≡ first_nan 0 values.now }
 {
-    let mut i = 0;
-    while i < values.len() {
-        let v = values[i];
-        if v != v {
-            return FirstNan::At(i as u16);
+    for (i, v) in values.iter().enumerate() {
+        if v.is_nan() {
+            return Some(i as u16);
         }
-        i += 1;
     }
-    FirstNan::Absent
+    None
 }
 
 // What the 91 bits of a codeword of (174,91) say.
@@ -56,16 +44,16 @@ fn checksum_reason(bits: &[u8]) -> Reason
 }
 
 // The reasons in their order, of a frame's values, its word and the word's first unsatisfied check.
-pub fn reason_of(code: u32, first: FirstCheck, values: &[f32], word: &[u8]) -> Reason
+pub fn reason_of(code: u32, first: Option<u16>, values: &[f32], word: &[u8]) -> Reason
     requires values_len_bound { length values.now ≤ 65536 }
     requires in_bounds { code ≡ 3 → 91 ≤ length word.now }
     ensures { result
         ≡ nan_or (first_nan 0 values.now) (check_or (first_of first) (checksum_or code (take (size_k code) word.now) Reason.Clean)) }
 {
-    if let FirstNan::At(p) = first_nan(values) {
+    if let Some(p) = first_nan(values) {
         return Reason::Nan(p);
     }
-    if let FirstCheck::Check(c) = first {
+    if let Some(c) = first {
         return Reason::Check(c);
     }
     if code == 3 {

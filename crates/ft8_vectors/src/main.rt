@@ -3,15 +3,14 @@
 // checksum, reads it back, encodes, and prints the payload, the checksum read back and the parity: the line's first three fields.
 #![tactic(auto)]
 
-use refusal::{Answer, Status};
 use std::io;
 use std::io::{Print, Read};
 
 // The payload's ten bytes of the line's first 77 digits.
 fn pack(line: &[u8; 215], payload: &mut [u8; 10]) {
-    for i in 0..77 {
-        if line[i] == b'1' {
-            payload[i / 8] = payload[i / 8] | (128u8 >> (i % 8));
+    for (i, &digit) in line[..77].iter().enumerate() {
+        if digit == b'1' {
+            payload[i / 8] |= 128u8 >> (i % 8);
         }
     }
 }
@@ -57,8 +56,8 @@ fn print_line(rt: &impl Print, text: &[u8; 177]) -> io::Result<()> {
 
 fn print_fields(rt: &impl Print, codeword: &[u8; 22], checksum: u16) -> io::Result<()> {
     let mut text = [0u8; 177];
-    for i in 0..177 {
-        text[i] = digit(codeword, checksum, i);
+    for (i, place) in text.iter_mut().enumerate() {
+        *place = digit(codeword, checksum, i);
     }
     print_line(rt, &text)
 }
@@ -70,23 +69,23 @@ fn print_refused(rt: &impl Print) -> io::Result<()> {
 fn encode(rt: &impl Print, block: &[u8; 12], checksum: u16) -> io::Result<()> {
     let mut codeword = [0xFFu8; 22];
     match ldpc_encoding::ldpc_encode(block, &mut codeword) {
-        Status::Done => print_fields(rt, &codeword, checksum),
-        Status::Refused(_) => print_refused(rt),
+        Ok(()) => print_fields(rt, &codeword, checksum),
+        Err(_) => print_refused(rt),
     }
 }
 
 fn read_back(rt: &impl Print, block: &[u8; 12]) -> io::Result<()> {
     match crc::ft8_extract_crc(block) {
-        Answer::Value(checksum) => encode(rt, block, checksum),
-        Answer::Refused(_) => print_refused(rt),
+        Ok(checksum) => encode(rt, block, checksum),
+        Err(_) => print_refused(rt),
     }
 }
 
 fn append(rt: &impl Print, payload: &[u8; 10]) -> io::Result<()> {
     let mut block = [0u8; 12];
     match crc::ft8_add_crc(payload, &mut block) {
-        Status::Done => read_back(rt, &block),
-        Status::Refused(_) => print_refused(rt),
+        Ok(()) => read_back(rt, &block),
+        Err(_) => print_refused(rt),
     }
 }
 

@@ -1,7 +1,7 @@
 -- The groups' bytes: one group's, and what is left to be done after it. Assumes nothing.
 use mathlib.Core.Path.{◌≡◌, refl, sym, ap, ap₂, ◌∙◌}
 use mathlib.Core.Bool.{Bool, true, false}
-use mathlib.Core.List.{List, [], ◌∷◌, ◌++◌, append_assoc, append-nil}
+use mathlib.Core.List.{List, [], ◌∷◌, ◌++◌, append_assoc}
 use Prim.Native.Nat.{ℕ, zero, suc, ◌+◌, ◌-◌, ◌*◌, ◌<◌, ◌≤◌}
 use native.Mathlib.Nat.{add-mul, zero-mul, mul-le-mul}
 use native.Mathlib.Numerals.{add-one}
@@ -12,9 +12,6 @@ use lib.Seq.{drop-cons, drop-drop, length-take-le, take-append-add, take-append_
 use Rattle.grouping.specs.Grouping.{total, all, group_bits, delivered}
 
 -- ---- one group
-
-pub all-filled : (v : ℕ) (bits : List ℕ) (i : ℕ) → length bits ≡ i → replicate i v ++ drop i bits ≡ replicate (length bits) v
-all-filled v bits i e = rw (drop_of_length-le bits {i = i} (omega arith), append-nil, e) refl
 
 pub held : (t : Bool) (bits : List ℕ) → t ≡ true → bits ≡ group_bits t bits
 held true bits e = refl

@@ -1,4 +1,3 @@
 pub mod Sizes
-pub mod All
 pub mod Groups
 pub mod Cases

@@ -83,6 +83,9 @@ module _ (sizes : List ℕ) (frames i left : ℕ) (rest : wrong sizes frames ≡
   pub all_taken : 0 < length sizes → length sizes ≤ i → left ≤ 0 → verdict (size_refusals frames sizes) ≡ nothing
   all_taken s h e = judged_wrong sizes frames false s (ended h ∙ right-none left e)
 
+-- the four ways out of the test
+pub ruleset ways_out = (refused_zero, refused_past, refused_left, all_taken)
+
 -- ---- sizes that are accepted
 
 -- none is 0, and they add up to the frame count

@@ -3,38 +3,36 @@
 
 ghost use Rattle.std.specs.Prelude.{◌≡◌, ◌*◌, ◌≤◌, length, replicate};
 ghost use Rattle.refusal.specs.Outcome.{judged};
-ghost use Rattle.refusal.specs.Answers.{status_of};
+ghost use Rattle.refusal.specs.Answers.{outcome_of};
 ghost use Rattle.grouping.specs.Grouping.{size_refusals, total, all, group_bits, delivered};
 
-use refusal::{Refusal, Status};
+use refusal::Refusal;
 
 // ---- sizes
 
 // Whether the sizes are of groups that take so many frames: each is compared with the frames that are left, so that no sum can wrap.
-#[tactic(auto, using(crate::proofs::Sizes::refused_zero))]
-pub fn sizes_fault(frames: usize, sizes: &[u32]) -> Status
-    ensures { status_of result ≡ judged (size_refusals frames sizes.now) tt }
+#[tactic(auto, using(crate::proofs::Sizes::ways_out))]
+pub fn sizes_fault(frames: usize, sizes: &[u32]) -> Result<(), Refusal>
+    ensures { outcome_of result ≡ judged (size_refusals frames sizes.now) tt }
 {
-    if sizes.len() == 0 {
-        return Status::Done;
+    if sizes.is_empty() {
+        return Ok(());
     }
     let mut left = frames;
-    let mut i = 0;
-    while i < sizes.len() {
-        let size = sizes[i] as usize;
+    for &n in sizes {
+        let size = n as usize;
         if size == 0 {
-            return Status::Refused(Refusal::GroupSizes);
+            return Err(Refusal::GroupSizes);
         }
         if size > left {
-            return Status::Refused(Refusal::GroupSizes);
+            return Err(Refusal::GroupSizes);
         }
         left -= size;
-        i += 1;
     }
     if left > 0 {
-        return Status::Refused(Refusal::GroupSizes);
+        return Err(Refusal::GroupSizes);
     }
-    Status::Done
+    Ok(())
 }
 
 // ---- bytes
@@ -43,25 +41,14 @@ pub fn sizes_fault(frames: usize, sizes: &[u32]) -> Status
 fn all_clean(clean: &[bool]) -> bool
     ensures { result ≡ all clean.now }
 {
-    let mut i = 0;
-    while i < clean.len() {
-        if !clean[i] {
-            return false;
-        }
-        i += 1;
-    }
-    true
+    clean.iter().all(|&c| c)
 }
 
 // 255 in every byte.
 fn withhold(bits: &mut [u8])
     ensures { bits.new ≡ replicate (length bits.old) 255 }
 {
-    let mut i = 0;
-    while i < bits.len() {
-        bits[i] = 255;
-        i += 1;
-    }
+    bits.fill(255);
 }
 
 // A group's bytes: as they are where it is delivered, and 255 otherwise.
@@ -80,14 +67,12 @@ pub fn close_groups(k: usize, sizes: &[u32], clean: &[bool], bits: &mut [u8])
     ensures { bits.new ≡ delivered k sizes.now clean.now bits.old }
 {
     let mut at = 0;
-    let mut g = 0;
-    while g < sizes.len() {
-        let end = at + sizes[g] as usize;
+    for &n in sizes {
+        let end = at + n as usize;
         let deliver = all_clean(&clean[at..end]);
         let from = at * k;
         let to = end * k;
         close_group(deliver, &mut bits[from..to]);
         at = end;
-        g += 1;
     }
 }

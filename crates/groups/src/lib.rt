@@ -3,7 +3,7 @@
 
 ghost use Rattle.std.specs.Prelude.{◌≡◌, ◌++◌, ◌*◌, ◌≤◌, length};
 ghost use Rattle.refusal.specs.Outcome.{judged};
-ghost use Rattle.refusal.specs.Answers.{status_of};
+ghost use Rattle.refusal.specs.Answers.{outcome_of};
 ghost use Rattle.batch.specs.Codes.{size_n, size_k};
 ghost use Rattle.batch.specs.Pairs.{pairs_of, frames_of, AllWithin};
 ghost use Rattle.batch.specs.Calls.{lent, batch, refusals_of};
@@ -12,7 +12,7 @@ ghost use Rattle.grouping.specs.Grouping.{size_refusals, total, delivered};
 ghost use Rattle.groups.specs.Groups.{clean_from, Answered};
 
 use batch_refusals::{MOST_PAIRS, Room};
-use refusal::Status;
+use refusal::Refusal;
 
 // ---- refusals
 
@@ -24,13 +24,11 @@ fn groups_fault(
     pairs: &[u32],
     sizes: &[u32],
     room: Room,
-) -> Status
-    ensures { status_of result ≡ judged
+) -> Result<(), Refusal>
+    ensures { outcome_of result ≡ judged
         (refusals_of code rule values (pairs_of pairs.now) room ++ size_refusals (length (pairs_of pairs.now)) sizes.now) tt }
 {
-    if let Status::Refused(r) = batch_refusals::batch_fault(code, rule, values, pairs, room) {
-        return Status::Refused(r);
-    }
+    batch_refusals::batch_fault(code, rule, values, pairs, room)?;
     grouping::sizes_fault(pairs.len() / 2, sizes)
 }
 
@@ -53,10 +51,8 @@ fn clean_list(
         ≡ clean_from (clean_of code (frames_of values.now (pairs_of pairs.now)) counts.now bits.now)
         0 (length clean.old) }
 {
-    let mut j = 0;
-    while j < clean.len() {
-        clean[j] = clean_frames::clean_at(code, values, pairs, j, counts, bits);
-        j += 1;
+    for (j, frame) in clean.iter_mut().enumerate() {
+        *frame = clean_frames::clean_at(code, values, pairs, j, counts, bits);
     }
 }
 
@@ -100,24 +96,16 @@ pub fn decode_groups(
     rounds: &mut [u16],
     firsts: &mut [u16],
     work: &mut [f32],
-) -> Status
+) -> Result<(), Refusal>
     ensures { Answered
         (batch code rule limit scale values.now (pairs_of pairs.now)
         (lent bits.old counts.old rounds.old firsts.old work.old))
         sizes.now
-        (status_of result)
+        (outcome_of result)
         (lent bits.new counts.new rounds.new firsts.new work.new) }
 {
-    let room = Room {
-        bits: bits.len(),
-        counts: counts.len(),
-        rounds: rounds.len(),
-        firsts: firsts.len(),
-        work: work.len(),
-    };
-    if let Status::Refused(r) = groups_fault(code, rule, values.len(), pairs, sizes, room) {
-        return Status::Refused(r);
-    }
+    let room = Room::of(bits, counts, rounds, firsts, work);
+    groups_fault(code, rule, values.len(), pairs, sizes, room)?;
     let told = batch::decode_batch(
         code, rule, limit, scale, values, pairs, bits, counts, rounds, firsts, work,
     );

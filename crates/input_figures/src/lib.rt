@@ -6,12 +6,11 @@ ghost use Rattle.batch_input.specs.Input.{pair_numbers, values_of, malformed};
 ghost use Rattle.figures.specs.Totals.{summed_of};
 ghost use Rattle.input_figures.specs.Added.{input_added};
 
-use decoded_input::Decoded;
-use figures::{Summed, Totals};
+use figures::Totals;
 use refusal::Refusal;
 
 // The total with the frames of an input that is not malformed, its values and pairs read.
-fn add_frames(total: Totals, input: &[u8], values: &[f32], pairs: &[u32]) -> Summed
+fn add_frames(total: Totals, input: &[u8], values: &[f32], pairs: &[u32]) -> Result<Totals, Refusal>
     requires input_value { malformed input.now ≡ false }
     requires values_value { (values.now ≡ values_of input.now) × (pairs.now ≡ take 50 (pair_numbers input.now)) }
     ensures { summed_of result ≡ input_added total input.now }
@@ -20,7 +19,7 @@ fn add_frames(total: Totals, input: &[u8], values: &[f32], pairs: &[u32]) -> Sum
     let mut counts = decoded_input::numbers_room();
     let mut rounds = decoded_input::numbers_room();
     let mut firsts = decoded_input::numbers_room();
-    match decoded_input::decode_fronts(
+    let decoded = decoded_input::decode_fronts(
         input,
         values,
         pairs,
@@ -28,22 +27,20 @@ fn add_frames(total: Totals, input: &[u8], values: &[f32], pairs: &[u32]) -> Sum
         &mut counts,
         &mut rounds,
         &mut firsts,
-    ) {
-        Decoded::Refused(r) => Summed::Refused(r),
-        Decoded::Frames(n, size) => batch_figures::add_batch(
-            total,
-            input[0] as u32,
-            values,
-            pairs,
-            &bits[..size],
-            &counts[..n],
-            &rounds[..n],
-        ),
-    }
+    )?;
+    batch_figures::add_batch(
+        total,
+        input[0] as u32,
+        values,
+        pairs,
+        &bits[..decoded.bits],
+        &counts[..decoded.frames],
+        &rounds[..decoded.frames],
+    )
 }
 
 // The total with the frames of an input that is not malformed.
-fn add_read(total: Totals, input: &[u8]) -> Summed
+fn add_read(total: Totals, input: &[u8]) -> Result<Totals, Refusal>
     requires { malformed input.now ≡ false }
     ensures { summed_of result ≡ input_added total input.now }
 {
@@ -55,11 +52,11 @@ fn add_read(total: Totals, input: &[u8]) -> Summed
 }
 
 // The total with the frames of an input's batch.
-pub fn add_input(total: Totals, input: &[u8]) -> Summed
+pub fn add_input(total: Totals, input: &[u8]) -> Result<Totals, Refusal>
     ensures { summed_of result ≡ input_added total input.now }
 {
     if batch_input::is_malformed(input) {
-        return Summed::Refused(Refusal::Malformed);
+        return Err(Refusal::Malformed);
     }
     add_read(total, input)
 }

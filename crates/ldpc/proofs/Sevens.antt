@@ -1,12 +1,12 @@
 -- Counting by the rows of `NM`: a turn of each loop, a table of rows in parts, and that over a word with a byte 0 before it the rows count what the checks
 -- count over the word. The last by one computed test: the rows' positions, counted from 0, are the checks'. Assumes nothing else.
-use mathlib.Core.Path.{◌≡◌, refl, ap, ◌∙◌}
+use mathlib.Core.Path.{◌≡◌, refl, sym, ap, ◌∙◌}
 use mathlib.Core.Bool.{Bool, true, false, cond}
 use mathlib.Core.List.{List, [], ◌∷◌, map}
 use Prim.Native.Nat.{ℕ, zero, suc, ◌+◌, ◌-◌, ◌*◌, ◌<◌, ◌≤◌}
 use native.Mathlib.Nat.{add-sub_cancel_left}
 use native.Mathlib.Omega.{arith}
-use borrow.Author.Tests.{ltb-true}
+use borrow.Author.Tests.{ltb-true, eq-eqb, ne_eqb}
 use lib.Bits.{bit_xor, bit_and, xor_zero_r}
 use lib.Dec.{eqb, ltb}
 use lib.ListN.{length, get_or, take, drop}
@@ -22,21 +22,18 @@ use Rattle.code174.proofs.Tests.{each_at}
 
 -- ---- a turn
 
-pub rows_more : (rows c a : ℕ) (t : List ℕ) → c < rows → sevens (rows - c) (drop a t) ≡ take (a + 7 - a) (drop a t) ∷ sevens (rows - (c + 1)) (drop (a + 7) t)
+pub rows_more : (rows c : ℕ) (t : List ℕ) → c < rows
+    → sevens (rows - c) (drop (c * 7) t) ≡ take (c * 7 + 7 - c * 7) (drop (c * 7) t) ∷ sevens (rows - (c + 1)) (drop ((c + 1) * 7) t)
 unfolding sevens
-rows_more rows c a t h =
+rows_more rows c t h =
     let n : rows - c ≡ suc (rows - (c + 1)) = omega arith in
-    rw (n, add-sub_cancel_left a 7, drop-drop 7 a t)
+    let s : (c + 1) * 7 ≡ c * 7 + 7 = omega arith in
+    rw (n, s, add-sub_cancel_left (c * 7) 7, drop-drop 7 (c * 7) t)
 
-pub rows_done : (rows c a : ℕ) (t : List ℕ) → rows ≤ c → sevens (rows - c) (drop a t) ≡ []
+pub rows_done : (rows c : ℕ) (t : List ℕ) → rows ≤ c → sevens (rows - c) (drop (c * 7) t) ≡ []
 unfolding sevens
-rows_done rows c a t h =
+rows_done rows c t h =
     let n : rows - c ≡ 0 = omega arith in
-    rw n
-
-pub rows_all : (rows : ℕ) (t : List ℕ) → sevens (rows - 0) (drop 0 t) ≡ sevens rows t
-rows_all rows t =
-    let n : rows - 0 ≡ rows = omega arith in
     rw n
 
 -- ---- the word with a byte 0 before it
@@ -99,13 +96,6 @@ count_parts mask bytes (suc n) k t =
     rw (s, d, ← drop-drop (n * 7) 7 t) (omega (arith, count_parts mask bytes n k (drop 7 t)))
 
 module _ (mask : ℕ) (bytes : List ℕ) where
-  -- the rows before `first` and those from there on
-  pub rows-after : (first end n : ℕ) (t : List ℕ) → n ≡ count_masked mask (sevens first t) bytes → first ≤ end
-      → n + count_masked mask (sevens (end - first) (drop (first * 7) t)) bytes ≡ count_masked mask (sevens end t) bytes
-  rows-after first end n t e h =
-      let s : first + (end - first) ≡ end = omega arith in
-      rw (e, ← count_parts mask bytes first (end - first) t, s)
-
   bit : (b : Bool) → cond b 0 1 ≤ 1
   bit true = omega arith
   bit false = omega arith
@@ -114,6 +104,19 @@ module _ (mask : ℕ) (bytes : List ℕ) where
   unfolding count_masked sevens
   rows_few zero t = omega arith
   rows_few (suc n) t = omega (arith, bit (eqb (bit_and (xor_from 0 (take 7 t) bytes) mask) 0), rows_few n (drop 7 t))
+
+-- one row more, whose bytes XORed are x, after n counted rows of c
+module _ (mask : ℕ) (bytes t : List ℕ) (c n x : ℕ) (e : x ≡ xor_from 0 (take (c * 7 + 7 - c * 7) (drop (c * 7) t)) bytes)
+    (so-far : n ≡ count_masked mask (sevens c t) bytes) where
+  one-more : count_masked mask (sevens (c + 1) t) bytes ≡ n + nonzero (bit_and x mask)
+  unfolding count_masked sevens
+  one-more = rw (e, add-sub_cancel_left (c * 7) 7) (omega (arith, so-far, count_parts mask bytes c 1 t))
+
+  pub row-counted : (bit_and x mask ≡ 0 → ⊥) → n + 1 ≡ count_masked mask (sevens (c + 1) t) bytes
+  row-counted h = sym (simp (ne_eqb _ _ h) at one-more)
+
+  pub row_passed : bit_and x mask ≡ 0 → n ≡ count_masked mask (sevens (c + 1) t) bytes
+  row_passed h = omega (arith, simp (eq-eqb _ _ h) at one-more)
 
 -- the entries are places of a word with a byte before it
 nm-low : Below 175 nm

@@ -13,7 +13,7 @@ ghost use Rattle.ldpc.specs.Rows.{Rows, sevens};
 ghost use Rattle.code174.specs.Tables.{nm, num_rows, mn};
 
 use refusal::Refusal;
-use tanner::{Counted, Counting, FirstCheck};
+use tanner::Counted;
 
 pub mod tables;
 
@@ -53,16 +53,14 @@ pub fn mn_entry(i: usize) -> u8
 }
 
 // The bytes at a row's entries, XORed whole.
+// Stays beside the one of tanner over u16: a function for both needs a trait that says a position's number, which is longer than this loop.
 fn xor_row(row: &[u8], padded: &[u8]) -> u8
     requires { Below (length padded.now) row.now }
     ensures { result ≡ xor_from 0 row.now padded.now }
 {
-    let mut x: u8 = 0;
-    let mut i = 0;
-    while i < row.len() {
-        let p = row[i] as usize;
-        x = x ^ padded[p];
-        i += 1;
+    let mut x = 0;
+    for &p in row {
+        x ^= padded[p as usize];
     }
     x
 }
@@ -75,15 +73,11 @@ fn count_rows(first: usize, end: usize, before: u16, table: &[u8], padded: &[u8]
     ensures { result ≡ count_masked mask (sevens end table.now) padded.now }
 {
     let mut count = before;
-    let mut a = first * 7;
-    let mut c = first;
-    while c < end {
-        let b = a + 7;
-        if xor_row(&table[a..b], padded) & mask != 0 {
+    for c in first..end {
+        let a = c * 7;
+        if xor_row(&table[a..a + 7], padded) & mask != 0 {
             count += 1;
         }
-        c += 1;
-        a = b;
     }
     count
 }
@@ -105,25 +99,21 @@ fn count_word(padded: &[u8], mask: u8) -> u16
 }
 
 // The first row that the mask counts: the scan ends there.
-fn first_row(table: &[u8], padded: &[u8], mask: u8) -> FirstCheck
+fn first_row(table: &[u8], padded: &[u8], mask: u8) -> Option<u16>
     requires { Rows 83 table.now (length padded.now) }
     ensures { first_of result ≡ first_masked mask (sevens 83 table.now) padded.now }
 {
-    let mut c = 0;
-    let mut a = 0;
-    while c < M {
-        let b = a + 7;
-        if xor_row(&table[a..b], padded) & mask != 0 {
-            return FirstCheck::Check(c as u16);
+    for c in 0..M {
+        let a = c * 7;
+        if xor_row(&table[a..a + 7], padded) & mask != 0 {
+            return Some(c as u16);
         }
-        c += 1;
-        a = b;
     }
-    FirstCheck::Satisfied
+    None
 }
 
-// The same over `NM`, which a function of its own names: a constant is laid where the function that names it starts.
-fn first_word(padded: &[u8], mask: u8) -> FirstCheck
+// The same over `NM`.
+fn first_word(padded: &[u8], mask: u8) -> Option<u16>
     requires { length padded.now ≡ 175 }
     ensures { first_of result ≡ first_masked mask (sevens 83 nm) padded.now }
 {
@@ -138,10 +128,7 @@ pub fn counted(padded: &[u8], mask: u8) -> Counted
 {
     let count = count_word(padded, mask);
     if count == 0 {
-        return Counted {
-            count,
-            first: FirstCheck::Satisfied,
-        };
+        return Counted { count, first: None };
     }
     let first = first_word(padded, mask);
     Counted { count, first }
@@ -153,11 +140,7 @@ fn padded_word(hard: &[u8]) -> [u8; 175]
     ensures { result ≡ 0 ∷ hard.now }
 {
     let mut padded = [0u8; 175];
-    let mut i = 0;
-    while i < N {
-        padded[i + 1] = hard[i];
-        i += 1;
-    }
+    padded[1..].copy_from_slice(hard);
     padded
 }
 
@@ -171,7 +154,7 @@ pub fn count_low(hard: &[u8]) -> u16
 }
 
 // The first of them.
-pub fn first_low(hard: &[u8]) -> FirstCheck
+pub fn first_low(hard: &[u8]) -> Option<u16>
     requires { length hard.now ≡ 174 }
     ensures { first_of result ≡ first_masked 1 checks hard.now }
 {
@@ -180,12 +163,12 @@ pub fn first_low(hard: &[u8]) -> FirstCheck
 }
 
 // How many checks have bytes whose XOR is not zero, and the first of them.
-pub fn ldpc_count_errors(hard: &[u8]) -> Counting
+pub fn ldpc_count_errors(hard: &[u8]) -> Result<Counted, Refusal>
     ensures { counting_of result ≡ judged (count_refusals hard.now) (syndrome_of_bytes checks hard.now) }
 {
     if hard.len() != N {
-        return Counting::Refused(Refusal::InputLength);
+        return Err(Refusal::InputLength);
     }
     let padded = padded_word(hard);
-    Counting::Counted(counted(&padded, 255))
+    Ok(counted(&padded, 255))
 }

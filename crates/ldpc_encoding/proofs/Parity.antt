@@ -2,15 +2,14 @@
 -- By induction over the bits and the bytes. Assumes nothing.
 use mathlib.Core.Path.{◌≡◌, refl, sym, ap, ◌∙◌}
 use mathlib.Core.List.{List, [], ◌∷◌, ◌++◌}
-use Prim.Native.Nat.{ℕ, zero, suc, ◌+◌, ◌*◌, ◌/◌, ◌%◌, ◌^◌, ◌<◌, ◌≤◌}
+use Prim.Native.Nat.{ℕ, zero, suc, ◌+◌, ◌*◌, ◌/◌, ◌%◌, ◌^◌, ◌<◌}
 use native.Mathlib.Nat.{mod-lt, zero-mul, mul-zero}
-use native.Mathlib.Numerals.{add-one}
 use native.Mathlib.Omega.{arith}
 use borrow.Author.Tests.{eqb-true}
 use lib.Bits.{bit_and, bit_xor, and_shr, and_mod, xor_shr, xor_add_and}
 use lib.Dec.{eqb}
-use lib.ListN.{length, get_or, take, drop, replicate, drop_of_length-le}
-use lib.Seq.{drop-cons}
+use lib.ListN.{length, take, drop, replicate}
+use Rattle.std.proofs.Common.{◌⊎◌, inl, inr}
 use Rattle.bits.specs.Bits.{bits_of, bits}
 use Rattle.code174.specs.Agreement.{each}
 use Rattle.ldpc_encoding.specs.Bytes.{odd, byte_parity, mixed}
@@ -135,15 +134,15 @@ pub row-parity : (gs bs : List ℕ) → length gs ≡ length bs → byte_parity 
 unfolding byte_parity odd bits_of
 row-parity gs bs e = mixed-parity 0 gs bs e ∙ omega (arith, under_bit (bits gs) (bits bs))
 
--- ---- a turn of the mixing loop
+-- ---- a turn of the mixing loop: what is left of the row and of the message
 
-pub mixed_more : (gs bs : List ℕ) (x j z : ℕ) → j < length gs → length gs ≡ length bs → mixed x (drop j gs) (drop j bs) ≡ z
-    → mixed (bit_xor x (bit_and (get_or gs j 0) (get_or bs j 0))) (drop (j + 1) gs) (drop (j + 1) bs) ≡ z
+pub mixed_more : {gs bs hs cs : List ℕ} (x g b z : ℕ) → gs ≡ g ∷ hs → bs ≡ b ∷ cs → mixed x gs bs ≡ z → mixed (bit_xor x (bit_and g b)) hs cs ≡ z
 unfolding mixed
-mixed_more gs bs x j z h e t =
-    let k : j < length bs = omega arith in
-    rw (drop-cons gs j 0 h, drop-cons bs j 0 k, ← add-one, ← add-one) at t
+mixed_more x g b z e f t = rw (e, f) at t
 
-pub mixed-done : (gs bs : List ℕ) (x j z : ℕ) → length gs ≤ j → mixed x (drop j gs) (drop j bs) ≡ z → x ≡ z
+pub mixed-done : (gs bs : List ℕ) (x z : ℕ) → (gs ≡ []) ⊎ (bs ≡ []) → mixed x gs bs ≡ z → x ≡ z
 unfolding mixed
-mixed-done gs bs x j z h t = rw (drop_of_length-le gs h) at t
+mixed-done [] bs x z e t = t
+mixed-done (g ∷ gs) [] x z e t = t
+mixed-done (g ∷ gs) (b ∷ bs) x z (inl e) t = cc
+mixed-done (g ∷ gs) (b ∷ bs) x z (inr e) t = cc

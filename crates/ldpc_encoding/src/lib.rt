@@ -3,13 +3,13 @@
 
 ghost use Rattle.std.specs.Prelude.{◌≡◌, ℕ, ◌+◌, ◌≤◌, ◌<◌, length, get_or};
 ghost use Rattle.refusal.specs.Outcome.{judged, kept};
-ghost use Rattle.refusal.specs.Answers.{status_of};
+ghost use Rattle.refusal.specs.Answers.{outcome_of};
 ghost use Rattle.ldpc_encoding.specs.Bytes.{byte_parity, mixed, gathered, code_byte};
 ghost use Rattle.ldpc_encoding.specs.Calls.{encode_refusals};
 ghost use Rattle.ldpc_encoding.specs.Encoding.{codeword_of};
 
 use ldpc::{K_BYTES, N_BYTES};
-use refusal::{Refusal, Status};
+use refusal::Refusal;
 
 pub mod tables;
 
@@ -27,11 +27,9 @@ fn mix(row: &[u8], message: &[u8]) -> u8
     requires { length row.now ≡ length message.now }
     ensures { result ≡ mixed 0 row.now message.now }
 {
-    let mut x: u8 = 0;
-    let mut j = 0;
-    while j < row.len() {
-        x = x ^ (row[j] & message[j]);
-        j += 1;
+    let mut x = 0;
+    for (g, b) in row.iter().zip(message) {
+        x ^= *g & *b;
     }
     x
 }
@@ -41,13 +39,10 @@ fn parity_bits(generator: &[u8], message: &[u8], first: usize, count: usize) -> 
     requires { (first + count ≤ 83) × (length generator.now ≡ 996) × (length message.now ≡ 12) }
     ensures { result ≡ gathered generator.now message.now first count }
 {
-    let mut byte: u8 = 0;
-    let mut i = 0;
-    while i < count {
+    let mut byte = 0;
+    for i in 0..count {
         let a = 12 * (first + i);
-        let b = a + 12;
-        byte = (byte << 1) | parity8(mix(&generator[a..b], message));
-        i += 1;
+        byte = (byte << 1) | parity8(mix(&generator[a..a + 12], message));
     }
     byte
 }
@@ -75,27 +70,25 @@ fn fill(generator: &[u8], message: &[u8], codeword: &mut [u8])
     ensures codeword_len { length codeword.new ≡ 22 }
     ensures by_index { (k : ℕ) → k < 22 → get_or codeword.new k 0 ≡ code_byte generator.now message.now k }
 {
-    let mut j = 0;
-    while j < 22 {
-        codeword[j] = code_byte(generator, message, j);
-        j += 1;
+    for (j, byte) in codeword.iter_mut().enumerate() {
+        *byte = code_byte(generator, message, j);
     }
 }
 
-pub fn ldpc_encode(message: &[u8], codeword: &mut [u8]) -> Status
-    ensures result_value { status_of result ≡ judged (encode_refusals message.now codeword.old) tt }
+pub fn ldpc_encode(message: &[u8], codeword: &mut [u8]) -> Result<(), Refusal>
+    ensures result_value { outcome_of result ≡ judged (encode_refusals message.now codeword.old) tt }
     ensures codeword_after { codeword.new
         ≡ kept (encode_refusals message.now codeword.old) codeword.old (codeword_of message.now) }
 {
     if message.len() != K_BYTES {
-        return Status::Refused(Refusal::InputLength);
+        return Err(Refusal::InputLength);
     }
     if message[11] % 32 != 0 {
-        return Status::Refused(Refusal::MessageSlack);
+        return Err(Refusal::MessageSlack);
     }
     if codeword.len() != N_BYTES {
-        return Status::Refused(Refusal::OutputLength);
+        return Err(Refusal::OutputLength);
     }
     fill(&tables::GENERATOR, message, codeword);
-    Status::Done
+    Ok(())
 }

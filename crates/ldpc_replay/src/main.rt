@@ -3,10 +3,10 @@
 // The file stdout holds what the Rust printed (tools/ldpc_replay.rs).
 #![tactic(auto)]
 
-use refusal::Status;
+use refusal::Refusal;
 use std::io;
 use std::io::{Print, Read};
-use tanner::{Counting, FirstCheck};
+use tanner::Counted;
 
 fn print_byte(rt: &impl Print, byte: u8) -> io::Result<()> {
     print!(rt; "{byte:02x}")
@@ -47,8 +47,8 @@ fn print_codeword(rt: &impl Print, codeword: &[u8; 22]) -> io::Result<()> {
 fn print_encoding(rt: &impl Print, message: &[u8; 12]) -> io::Result<()> {
     let mut codeword = [0xFFu8; 22];
     match ldpc_encoding::ldpc_encode(message, &mut codeword) {
-        Status::Done => print_codeword(rt, &codeword)?,
-        Status::Refused(_) => print!(rt; "refused")?,
+        Ok(()) => print_codeword(rt, &codeword)?,
+        Err(_) => print!(rt; "refused")?,
     }
     end_line(rt)
 }
@@ -73,22 +73,22 @@ fn encode_all(rt: &impl Print, reader: &mut impl Read) -> io::Result<()> {
     Ok(())
 }
 
-fn print_first(rt: &impl Print, first: FirstCheck) -> io::Result<()> {
+fn print_first(rt: &impl Print, first: Option<u16>) -> io::Result<()> {
     match first {
-        FirstCheck::Check(check) => print!(rt; "{check:02x}"),
-        FirstCheck::Satisfied => print!(rt; "--"),
+        Some(check) => print!(rt; "{check:02x}"),
+        None => print!(rt; "--"),
     }
 }
 
-fn print_count(rt: &impl Print, c: Counting) -> io::Result<()> {
+fn print_count(rt: &impl Print, c: Result<Counted, Refusal>) -> io::Result<()> {
     match c {
-        Counting::Counted(counted) => {
+        Ok(counted) => {
             let count = counted.count;
             print!(rt; "{count:02x}")?;
             let first = counted.first;
             print_first(rt, first)?;
         }
-        Counting::Refused(_) => print!(rt; "refused")?,
+        Err(_) => print!(rt; "refused")?,
     }
     end_line(rt)
 }

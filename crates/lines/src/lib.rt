@@ -34,22 +34,20 @@ pub fn frame_lines(
     let k = batch_refusals::message_bits(code);
     let mut next = at;
     let mut from = 0;
-    let mut j = 0;
-    while j < counts.len() {
+    for (j, &count) in counts.iter().enumerate() {
         let to = from + k;
         let clean = clean_frames::clean_at(code, values, pairs, j, counts, bits);
         next = one_line::frame_line(
             out,
             next,
             j as u16,
-            counts[j],
+            count,
             rounds[j],
             clean,
             &bits[from..to],
             firsts[j],
         );
         from = to;
-        j += 1;
     }
     next
 }

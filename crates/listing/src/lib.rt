@@ -9,8 +9,6 @@ ghost use Rattle.batch.specs.Calls.{lent, batch};
 ghost use Rattle.batch_input.specs.Input.{code_of, rule_of, limit_of, scale_of, pair_count, pair_numbers, values_of, malformed};
 ghost use Rattle.listing.specs.Listing.{frames_text, listing_of};
 
-use decoded_input::Decoded;
-
 // The head line and the frames' lines of a batch that was accepted: so many pairs name frames within the values.
 fn write_frames(
     input: &[u8],
@@ -75,15 +73,15 @@ fn list_frames(input: &[u8], values: &[f32], pairs: &[u32], out: &mut [u8]) -> u
         &mut rounds,
         &mut firsts,
     ) {
-        Decoded::Refused(r) => text::refusal_line(out, 0, refusal::number(r) as u16),
-        Decoded::Frames(n, size) => write_frames(
+        Err(r) => text::refusal_line(out, 0, u16::from(r)),
+        Ok(decoded) => write_frames(
             input,
             values,
             pairs,
-            &bits[..size],
-            &counts[..n],
-            &rounds[..n],
-            &firsts[..n],
+            &bits[..decoded.bits],
+            &counts[..decoded.frames],
+            &rounds[..decoded.frames],
+            &firsts[..decoded.frames],
             out,
         ),
     }

@@ -5,7 +5,6 @@ ghost use Rattle.std.specs.Prelude.{◌≡◌, length};
 
 use std::io;
 use std::io::{Print, Read};
-use stored_inputs::Stored;
 
 fn input_room() -> [u8; 65537]
     ensures { 65537 ≡ length result }
@@ -16,7 +15,7 @@ fn input_room() -> [u8; 65537]
 // One input; answers whether there was one.
 fn list_one<R: Read, P: Print>(rt: &P, reader: &mut R) -> io::Result<bool> {
     let mut input = input_room();
-    let Stored::Bytes(n) = stored_inputs::read_next(reader, &mut input)? else {
+    let Some(n) = stored_inputs::read_next(reader, &mut input)? else {
         return Ok(false);
     };
     let mut out = [0u8; 4096];

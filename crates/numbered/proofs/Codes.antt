@@ -1,4 +1,4 @@
--- The code that tests of its number have found: by the tests. Assumes nothing.
+-- The size and the checks of a staircase code by its number: by cases. Assumes nothing.
 use mathlib.Core.Path.{◌≡◌, refl}
 use Prim.Native.Nat.{ℕ, zero, suc, ◌<◌}
 use native.Mathlib.Omega.{arith}
@@ -6,22 +6,11 @@ use Rattle.construction.specs.Codes.{Code, block_length}
 use Rattle.staircase.specs.Codes.{code_of, checks}
 use Rattle.numbered.specs.Codes.{by_code, size_n, checks_by}
 
-pub size_at : (code i n : ℕ) → code ≡ i → n ≡ size_n code → n ≡ size_n i
-size_at code i n e h = rw e at h
-
-pub last_code : (code : ℕ) → code < 4 → (code ≡ 0 → ⊥) → (code ≡ 1 → ⊥) → (code ≡ 2 → ⊥) → code ≡ 3
-last_code code l a b c = omega arith
-
--- ---- a staircase code
-
 stair_by : {A : Type 0} (code : ℕ) (f : Code → A) (a : A) → code < 3 → by_code code f a ≡ f (code_of code)
 stair_by zero f a h = refl
 stair_by (suc zero) f a h = refl
 stair_by (suc (suc zero)) f a h = refl
 stair_by (suc (suc (suc n))) f a h = absurd (omega arith)
-
-pub stair_code : (code : ℕ) → code < 4 → (code ≡ 3 → ⊥) → code < 3
-stair_code code l n = omega arith
 
 pub stair_size : (code : ℕ) → code < 3 → size_n code ≡ block_length (code_of code)
 unfolding size_n

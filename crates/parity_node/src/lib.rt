@@ -13,12 +13,10 @@ fn paired_first(k: usize, m: usize, from: usize, llr: &[f32], messages: &mut [f3
     ensures { messages.new ≡ turns (parity_first llr.now k m from) (m - 1) messages.old }
 {
     let next = from + m + 1;
-    let mut i = 0;
-    while i + 1 < m {
+    for i in 0..m - 1 {
         let l = llr[k + i];
         messages[from + i] = l;
         messages[next + i] = l;
-        i += 1;
     }
 }
 
@@ -42,8 +40,7 @@ fn paired_bits(k: usize, m: usize, from: usize, llr: &[f32], messages: &mut [f32
         ≡ turns (parity_turn llr.now k m from) (m - 1) (pass_of hard.old messages.old) }
 {
     let next = from + m + 1;
-    let mut i = 0;
-    while i + 1 < m {
+    for i in 0..m - 1 {
         let l = llr[k + i];
         let x = messages[from + i];
         let y = messages[next + i];
@@ -51,7 +48,6 @@ fn paired_bits(k: usize, m: usize, from: usize, llr: &[f32], messages: &mut [f32
         hard[k + i] = softmath::decide(l + x + y);
         messages[from + i] = total - x;
         messages[next + i] = total - y;
-        i += 1;
     }
 }
 

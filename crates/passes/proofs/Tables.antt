@@ -21,7 +21,7 @@ use Rattle.code174.specs.Code174 as code174
 use Rattle.code174.proofs.Arrays.{slot_edge, slot_pads}
 use Rattle.code174.proofs.BySlots.{slotted, pads_right, edges_size, edges_low}
 use Rattle.variable_node.specs.Passes.{Listed}
-use Rattle.passes.specs.Codes.{size_m, checks_by, degree, room}
+use Rattle.passes.specs.Codes.{size_m, checks_by, degree}
 use Rattle.passes.specs.Passes.{StairEdges}
 
 -- ---- a staircase code, from its taps
@@ -99,8 +99,3 @@ slotted_by zero = stair-slotted n512r12 3 512 taps0 (stairs0 512 (omega arith)) 
 slotted_by (suc zero) = stair-slotted n576r23 6 576 taps1 (stairs1 576 (omega arith)) (taps-right laid1)
 slotted_by (suc (suc zero)) = stair-slotted n512r34 9 512 taps2 (stairs2 512 (omega arith)) (taps-right laid2)
 slotted_by (suc (suc (suc n))) = slotted
-
--- ---- the room at a code that a test has found
-
-pub room_at : (code i n : ℕ) → code ≡ i → n ≡ room code → n ≡ room i
-room_at code i n e h = rw e at h

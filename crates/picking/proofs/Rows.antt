@@ -1,5 +1,6 @@
 -- What each row of a list has, the rows that the construction takes from it have: from appended, sorted and filtered lists, by a search and by a relaxed pick.
 -- So a search yields no row that is skipped, and a pick none past the last. Inductions over the list.
+use Rattle.std.specs.Prelude.{Some, None}
 use mathlib.Core.Path.{◌≡◌, refl}
 use mathlib.Core.Bool.{Bool, true, false, cond}
 use mathlib.Core.List.{List, [], ◌∷◌, ◌++◌}
@@ -8,7 +9,7 @@ use native.Mathlib.Omega.{arith}
 use lib.Dec.{leb, ltb}
 use Rattle.columns.specs.Rows.{holds, insert, sorted}
 use Rattle.lists.specs.Below.{Below}
-use Rattle.picking.specs.Picks.{Found, row, nothing, up_from, once_round, without, least_of, first_least, search, first_outside, settled}
+use Rattle.picking.specs.Picks.{Found, up_from, once_round, without, least_of, first_least, search, first_outside, settled}
 
 -- one of two
 pub either : {A : Type 0} (P : A → Type 0) (b : Bool) {x y : A} → P x → P y → P (cond b x y)
@@ -48,11 +49,11 @@ module _ (P : ℕ → Type 0) where
   outside-has c [] other p e = p
   outside-has c (r ∷ rs) other p e = either P (holds c r) (outside-has c rs other p e.1) e.0
 
-  pub settled-has : (m : ℕ) (picked : List ℕ) (start : ℕ) (f : Found) → ((q : ℕ) → f ≡ row q → P q) → P (first_outside picked (once_round m start) 0)
+  pub settled-has : (m : ℕ) (picked : List ℕ) (start : ℕ) (f : Found) → ((q : ℕ) → f ≡ Some q → P q) → P (first_outside picked (once_round m start) 0)
       → P (settled m picked start f).row
   unfolding settled
-  settled-has m picked start (row q) p o = p q refl
-  settled-has m picked start nothing p o = o
+  settled-has m picked start (Some q) p o = p q refl
+  settled-has m picked start None p o = o
 
   -- ---- the search
   each-without : (skip : ℕ → Bool) (rs : List ℕ) → Each P rs → Each P (without skip rs)
@@ -66,7 +67,7 @@ module _ (P : ℕ → Type 0) where
     least-has r [] p e = p
     least-has r (q ∷ qs) p e = least-has (cond (ltb (L q) (L r)) q r) qs (either P (ltb (L q) (L r)) e.0 p) e.1
 
-    first-has : (rs : List ℕ) (q : ℕ) → Each P rs → first_least L rs ≡ row q → P q
+    first-has : (rs : List ℕ) (q : ℕ) → Each P rs → first_least L rs ≡ Some q → P q
     unfolding first_least
     first-has [] q e f =
         let z : ◌≡◌ {A = ℕ} 0 1 = cc in
@@ -111,10 +112,10 @@ without_free S (r ∷ rs) = kept_free S (S r) r (without S rs) refl (without_fre
 
 module _ (m : ℕ) (L : ℕ → ℕ) (S : ℕ → Bool) (start q : ℕ) where
   -- a row that is not skipped
-  pub search-free : search m L S start ≡ row q → S q ≡ false
+  pub search-free : search m L S start ≡ Some q → S q ≡ false
   unfolding search
   search-free e = first-has (λ r. S r ≡ false) L (without S (once_round m start)) q (without_free S (once_round m start)) e
 
-  pub search-below : start ≤ m → search m L S start ≡ row q → q < m
+  pub search-below : start ≤ m → search m L S start ≡ Some q → q < m
   unfolding search
   search-below h e = first-has (λ r. r < m) L (without S (once_round m start)) q (each-without (λ r. r < m) S (once_round m start) (round_below m start h)) e

@@ -1,12 +1,11 @@
 -- A pick among m rows, as document 01 ("The staircase codes") has it: the search once round the rows, and the relaxed pick.
 -- The rows' loads, and whether the search skips a row, are given as functions.
-use Rattle.std.specs.Prelude.{Bool, cond, List, [], ◌∷◌, ◌++◌, ℕ, zero, suc, ◌-◌, ltb}
+use Rattle.std.specs.Prelude.{Bool, cond, Option, Some, None, List, [], ◌∷◌, ◌++◌, ℕ, zero, suc, ◌-◌, ltb}
 use Rattle.columns.specs.Rows.{holds}
 
 -- "The search yields a row or nothing"
-pub data Found : Type 0 where
-  row : ℕ → Found
-  nothing : Found
+abbrev pub Found : Type 0
+Found = Option ℕ
 
 -- n rows from a on
 unfoldable pub up_from : ℕ → ℕ → List ℕ
@@ -28,8 +27,8 @@ least_of loads r (q ∷ qs) = least_of loads (cond (ltb (loads q) (loads r)) q r
 
 -- "the least loaded of the rest, the first met among equals"
 unfoldable pub first_least : (ℕ → ℕ) → List ℕ → Found
-first_least loads [] = nothing
-first_least loads (r ∷ rs) = row (least_of loads r rs)
+first_least loads [] = None
+first_least loads (r ∷ rs) = Some (least_of loads r rs)
 
 unfoldable pub search : ℕ → (ℕ → ℕ) → (ℕ → Bool) → ℕ → Found
 search m loads skip start = first_least loads (without skip (once_round m start))
@@ -46,5 +45,5 @@ pub record Choice : Type 0 where
 
 -- "nothing leads to the relaxed pick"
 unfoldable pub settled : ℕ → List ℕ → ℕ → Found → Choice
-settled m picked start (row r) = record { row = r; relaxed = 0 }
-settled m picked start nothing = record { row = first_outside picked (once_round m start) 0; relaxed = 1 }
+settled m picked start (Some r) = record { row = r; relaxed = 0 }
+settled m picked start None = record { row = first_outside picked (once_round m start) 0; relaxed = 1 }

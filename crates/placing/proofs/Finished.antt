@@ -60,9 +60,6 @@ module _ {m n : ℕ} {rows loads marks : List ℕ} (b : Begun m n 3 rows loads m
   whole-cut : take 3 (drop (3 * n) whole) ≡ v
   whole-cut = rw (drop_at (take (3 * n) rows) (v ++ drop (3 * n + 3 - 3 * n) (drop (3 * n) rows)) (3 * n) front) (take_at v _ 3 v-size)
 
-  pub whole-column : take (3 * n + 3 - 3 * n) (drop (3 * n) whole) ≡ v
-  whole-column = ap (λ (k : ℕ). take k (drop (3 * n) whole)) three ∙ whole-cut
-
   whole-earlier : take (3 * n) whole ≡ take (3 * n) rows
   whole-earlier = take_at (take (3 * n) rows) _ (3 * n) front
 

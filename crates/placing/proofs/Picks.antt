@@ -4,18 +4,21 @@ use mathlib.Core.Path.{◌≡◌, refl, sym, ap, ◌∙◌}
 use mathlib.Core.Bool.{Bool, true, false, ◌||◌, or_assoc, or_comm, or-false}
 use mathlib.Core.List.{List, [], ◌∷◌, ◌++◌}
 use Prim.Native.Nat.{ℕ, zero, suc, ◌+◌, ◌-◌, ◌*◌, ◌%◌, ◌≤◌, ◌<◌}
-use native.Mathlib.Nat.{mod-lt, zero-add, suc-add}
+use native.Mathlib.Nat.{mod-lt}
 use native.Mathlib.Numerals.{add-one}
 use native.Mathlib.Omega.{arith}
 use lib.Dec.{ltb, eqb}
 use lib.ListN.{length, set, take, drop, length-set, length-drop}
-use lib.Seq.{take-set-le, take-take, take-nil, drop-set-add, take-suc-set}
+use lib.Seq.{take-set-le, take-take, drop-set-add, take-suc-set}
 use Rattle.columns.specs.Rows.{together}
 use Rattle.columns.specs.Tables.{flag_at, column_at, columns_in, AllMarked}
 use Rattle.lists.specs.Below.{Below}
 use Rattle.lists.proofs.Below.{below-within, below_set}
-use Rattle.picking.specs.Picks.{Found, row, nothing, Choice, up_from, search, least_of, settled}
-use Rattle.picking.specs.Searches.{met_row, met_rows, FoundBelow, load_at}
+use Rattle.picking.specs.Picks.{Found, Choice, up_from, search, least_of, settled}
+use Rattle.std.specs.Prelude.{Some, None}
+use Rattle.std.proofs.lemmas.List.{drop-take}
+use Rattle.picking.specs.declared.Taken.{Taken}
+use Rattle.picking.specs.Searches.{choice_of, met_row, met_rows, FoundBelow, load_at}
 use Rattle.picking.proofs.Searches.{met-round}
 use Rattle.picking.proofs.Rows.{either}
 use Rattle.placing.specs.OnePick.{pick, skipped, load}
@@ -23,16 +26,16 @@ use Rattle.placing.specs.Tables.{Flags, Loads, Ready, Begun, Placed}
 
 module _ (m : ℕ) (L L' : ℕ → ℕ) (S S' : ℕ → Bool) (loads : (r : ℕ) → r < m → L r ≡ L' r) (flags : (r : ℕ) → r < m → S r ≡ S' r) where
   met-same : (b : Bool) (r : ℕ) (f : Found) → r < m → FoundBelow m f → met_row L b r f ≡ met_row L' b r f
-  unfolding met_row least_of FoundBelow
+  unfolding met_row least_of
   met-same true r f h low = refl
-  met-same false r nothing h low = refl
-  met-same false r (row q) h low = rw (loads r h, loads q low)
+  met-same false r None h low = refl
+  met-same false r (Some q) h low = rw (loads r h, loads q low)
 
   met-below : (b : Bool) (r : ℕ) (f : Found) → r < m → FoundBelow m f → FoundBelow m (met_row L b r f)
-  unfolding met_row least_of FoundBelow
+  unfolding met_row least_of
   met-below true r f h low = low
-  met-below false r nothing h low = h
-  met-below false r (row q) h low = either (λ (x : ℕ). x < m) (ltb (L r) (L q)) h low
+  met-below false r None h low = h
+  met-below false r (Some q) h low = either (λ (x : ℕ). x < m) (ltb (L r) (L q)) h low
 
   mets-same : (n a : ℕ) (f : Found) → a + n ≤ m → FoundBelow m f → met_rows L S (up_from a n) f ≡ met_rows L' S' (up_from a n) f
   unfolding met_rows up_from
@@ -48,11 +51,10 @@ module _ (m : ℕ) (L L' : ℕ → ℕ) (S S' : ℕ → Bool) (loads : (r : ℕ)
   mets-below (suc n) a f h low = mets-below n (suc a) (met_row L (S a) a f) (omega arith) (met-below (S a) a f (omega arith) low)
 
   pub search-same : (start : ℕ) → start ≤ m → search m L S start ≡ search m L' S' start
-  unfolding FoundBelow
   search-same start h =
-      let first = mets-same (m - start) start nothing (omega arith) tt in
+      let first = mets-same (m - start) start None (omega arith) tt in
       sym (met-round L S m start)
-      ∙ mets-same start 0 _ (omega arith) (mets-below (m - start) start nothing (omega arith) tt)
+      ∙ mets-same start 0 _ (omega arith) (mets-below (m - start) start None (omega arith) tt)
       ∙ rw first (met-round L' S' m start)
 
 -- ---- one pick
@@ -94,11 +96,6 @@ flags_more cs picked q u v size f m r h =
     ∙ rw (f r (omega arith), skipped_append cs picked (q ∷ []) r, one_skipped cs q r) (or_comm (eqb q r || together cs q r) (skipped cs picked r))
 
 -- ---- the picks of a column
-drop-take : (a b : ℕ) (l : List ℕ) → drop a (take (a + b) l) ≡ take b (drop a l)
-drop-take zero b l = rw zero-add
-drop-take (suc a) b [] = rw suc-add (sym (take-nil b))
-drop-take (suc a) b (x ∷ l) = rw suc-add (drop-take a b l)
-
 pub columns-same : (n : ℕ) (u v : List ℕ) → take (3 * n) u ≡ take (3 * n) v → columns_in u n ≡ columns_in v n
 unfolding columns_in column_at
 columns-same zero u v e = refl
@@ -124,17 +121,17 @@ module _ (n t r : ℕ) (rows : List ℕ) (fits : 3 * n + t < length rows) where
   pub set-picked : take (t + 1) (drop (3 * n) (set rows (3 * n + t) r)) ≡ take t (drop (3 * n) rows) ++ (r ∷ [])
   set-picked = rw (add-one, drop-set-add (3 * n) rows t r) (take-suc-set (drop (3 * n) rows) t r (simp length-drop (omega arith)))
 
-pub placed : {m : ℕ} (n t drawn : ℕ) (rows loads marks marks' : List ℕ) (c : Choice) → t < 3 → Begun m n t rows loads marks
-    → c ≡ looked_up loads marks (take (3 * n + t - 3 * n) (drop (3 * n) rows)) drawn
-    → c.row < m → c.relaxed ≤ 1 → length marks' ≡ length marks → AllMarked (columns_in rows n) c.row marks marks'
-    → Placed m n t drawn rows loads c.relaxed (set rows (3 * n + t) c.row) marks'
-placed {m} n t drawn rows loads marks marks' c early b e low most size all =
+pub placed : {m : ℕ} (n t drawn : ℕ) (rows loads marks marks' : List ℕ) (taken : Taken) → t < 3 → Begun m n t rows loads marks
+    → choice_of taken ≡ looked_up loads marks (take (3 * n + t - 3 * n) (drop (3 * n) rows)) drawn
+    → taken.row < m → length marks' ≡ length marks → AllMarked (columns_in rows n) taken.row marks marks'
+    → Placed m n t drawn rows loads taken.relaxed (set rows (3 * n + t) taken.row) marks'
+placed {m} n t drawn rows loads marks marks' taken early b e low size all =
+    let r = taken.row in
     let same = pick_is n t drawn rows b.ready b.flags e in
     let fits : 3 * n + t < length rows = omega (arith, b.room) in
-    let cs = set-columns n t c.row rows fits in
+    let cs = set-columns n t r rows fits in
     record {
       relaxes = ap (λ (k : Choice). k.relaxed) same;
-      at_most = most;
       stored = ap (λ (k : Choice). set rows (3 * n + t) k.row) same;
       begun = record {
         ready = record {
@@ -148,7 +145,7 @@ placed {m} n t drawn rows loads marks marks' c early b e low most size all =
         few = b.few;
         below =
             let k : 3 * n + (t + 1) ≡ 3 * n + t + 1 = omega arith in
-            rw k (below_set m (3 * n + t) c.row rows fits low b.below);
-        flags = rw (cs, set-picked n t c.row rows fits) (flags_more _ _ c.row marks marks' size b.flags all);
+            rw k (below_set m (3 * n + t) r rows fits low b.below);
+        flags = rw (cs, set-picked n t r rows fits) (flags_more _ _ r marks marks' size b.flags all);
       };
     }

@@ -1,6 +1,7 @@
 -- How the code holds a column in the making: the flags are those of the rows that a pick skips, and the loads those of the columns made.
 -- What a pick and a finished column leave.
-use Rattle.std.specs.Prelude.{List, ◌∷◌, ◌≡◌, ℕ, suc, ◌+◌, ◌*◌, ◌≤◌, ◌<◌, length, get_or, set, take, drop, replicate}
+use Rattle.std.specs.Prelude.{Bool, List, ◌∷◌, ◌≡◌, ℕ, suc, ◌+◌, ◌*◌, ◌≤◌, ◌<◌, length, get_or, set, take, drop, replicate}
+use Rattle.std.specs.Int.{from_bool}
 use Rattle.columns.specs.Rows.{sorted}
 use Rattle.columns.specs.Tables.{flag_at, columns_in}
 use Rattle.lists.specs.Below.{Below}
@@ -31,9 +32,8 @@ pub record Begun (m n t : ℕ) (rows loads marks : List ℕ) : Type 0 where
   pub flags : Flags (columns_in rows n) (take t (drop (3 * n) rows)) marks
 
 -- pick t of column n is made, at a drawn number
-pub record Placed (m n t drawn : ℕ) (rows loads : List ℕ) (relaxed : ℕ) (rows' marks' : List ℕ) : Type 0 where
-  pub relaxes : relaxed ≡ (pick m (columns_in rows n) (take t (drop (3 * n) rows)) drawn).relaxed
-  pub at_most : relaxed ≤ 1
+pub record Placed (m n t drawn : ℕ) (rows loads : List ℕ) (relaxed : Bool) (rows' marks' : List ℕ) : Type 0 where
+  pub relaxes : from_bool relaxed ≡ (pick m (columns_in rows n) (take t (drop (3 * n) rows)) drawn).relaxed
   pub stored : rows' ≡ set rows (3 * n + t) (pick m (columns_in rows n) (take t (drop (3 * n) rows)) drawn).row
   pub begun : Begun m n (t + 1) rows' loads marks'
 

@@ -1,19 +1,12 @@
 -- The outside call that explains a frame: when it is refused, what it answers otherwise, and what it leaves in the memory lent to it.
 use Rattle.std.specs.Prelude.{◌≡◌, not, List, [], ◌∷◌, ℕ, eqb, ltb, Float, length}
-use Rattle.refusal.specs.Outcome.{Outcome, accepted, refused, Condition, ◌when◌, judged, kept}
-use Rattle.refusal.specs.Numbers.{number_of}
+use Rattle.refusal.specs.Outcome.{Outcome, Condition, ◌when◌, judged, kept}
 use Rattle.rounds.specs.Rounds.{chosen}
 use Rattle.work_area.specs.Area.{cleared}
 use Rattle.batch.specs.Codes.{size_n, decode_of}
 use Rattle.batch.specs.Calls.{rule_not_of_code}
 use Rattle.first_reason.specs.declared.Reason.{Reason}
-use Rattle.reason.specs.declared.Explained.{Explained}
-use Rattle.reason.specs.declared.Explained.TheVariants.{Because, Refused}
 use Rattle.reason.specs.Under.{reason_under}
-
-abbrev pub explained_of : Explained → Outcome Reason
-explained_of (Because r) = accepted r
-explained_of (Refused r) = refused (number_of r)
 
 -- a frame as it is handed over, and the memory lent: N places for the word, and the work area
 pub record Asked : Type 0 where

@@ -1,27 +1,23 @@
 // Why a frame is open: the frame is decoded, and the first reason that applies is the answer.
 #![tactic(auto)]
 
-ghost use Rattle.std.specs.Prelude.{◌≡◌, ◌<◌, ◌≤◌, length};
+ghost use Rattle.std.specs.Prelude.{◌≡◌, ◌≤◌, length};
+ghost use Rattle.refusal.specs.Answers.{outcome_of};
 ghost use Rattle.work_area.specs.Area.{cleared};
 ghost use Rattle.rounds.specs.Rounds.{chosen};
+ghost use Rattle.numbered.specs.Numbers.{code_number};
 ghost use Rattle.batch.specs.Codes.{size_n, decode_of};
 ghost use Rattle.reason.specs.Under.{reason_under};
-ghost use Rattle.reason.specs.Calls.{asked, explained_of, Answered};
+ghost use Rattle.reason.specs.Calls.{asked, Answered};
 
 use first_reason::Reason;
+use numbered::Code;
 use refusal::Refusal;
 use work_area::WORK;
 
-// The answer of a call that explains.
-#[derive(Clone, Copy)]
-pub enum Explained {
-    Because(Reason),
-    Refused(Refusal),
-}
-
 // The frame decoded, and its reason; the chosen word's bits go to `word`.
 pub fn find_reason(
-    code: u32,
+    code: Code,
     rule: u32,
     scale: f32,
     limit: u16,
@@ -29,18 +25,17 @@ pub fn find_reason(
     word: &mut [u8],
     work: &mut [f32],
 ) -> Reason
-    requires code_bound { code < 4 }
-    requires values_len { length values.now ≡ size_n code }
-    requires word_len { length word.old ≡ size_n code }
+    requires values_len { length values.now ≡ size_n (code_number code) }
+    requires word_len { length word.old ≡ size_n (code_number code) }
     requires in_bounds { 3070 ≤ length work.old }
-    ensures value { result ≡ reason_under code rule scale values.now limit }
-    ensures word_after { word.new ≡ chosen (decode_of code rule scale values.now) limit }
+    ensures value { result ≡ reason_under (code_number code) rule scale values.now limit }
+    ensures word_after { word.new ≡ chosen (decode_of (code_number code) rule scale values.now) limit }
     ensures work_after { work.new ≡ cleared work.old }
 {
     let told = one_frame::decode_frame(code, rule, scale, limit, values, word, work);
     work_area::clear_area(work);
     let first = told.first;
-    first_reason::reason_of(code, first, values, word)
+    first_reason::reason_of(u32::from(code), first, values, word)
 }
 
 // Why a frame of the code is open, or that it is clean: the word that its decode chooses goes to `word`, all N bits.
@@ -52,28 +47,26 @@ pub fn frame_reason(
     values: &[f32],
     word: &mut [u8],
     work: &mut [f32],
-) -> Explained
+) -> Result<Reason, Refusal>
     ensures { Answered (asked code rule scale limit values.now word.old work.old)
-        (explained_of result) word.new work.new }
+        (outcome_of result) word.new work.new }
 {
-    if code > 3 {
-        return Explained::Refused(Refusal::UnknownCode);
-    }
+    let known = Code::try_from(code)?;
     if rule > 4 {
-        return Explained::Refused(Refusal::UnknownRule);
+        return Err(Refusal::UnknownRule);
     }
     if batch_refusals::rule_not_of_code(code, rule) {
-        return Explained::Refused(Refusal::RuleNotOfCode);
+        return Err(Refusal::RuleNotOfCode);
     }
-    let n = batch_refusals::frame_values(code);
+    let n = known.n();
     if values.len() != n {
-        return Explained::Refused(Refusal::InputLength);
+        return Err(Refusal::InputLength);
     }
     if word.len() != n {
-        return Explained::Refused(Refusal::OutputLength);
+        return Err(Refusal::OutputLength);
     }
     if work.len() < WORK {
-        return Explained::Refused(Refusal::WorkTooShort);
+        return Err(Refusal::WorkTooShort);
     }
-    Explained::Because(find_reason(code, rule, scale, limit, values, word, work))
+    Ok(find_reason(known, rule, scale, limit, values, word, work))
 }

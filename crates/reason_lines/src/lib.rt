@@ -30,12 +30,8 @@ fn put_entries(out: &mut [u8], at: usize, positions: &[u16], word: &[u8]) -> usi
     ensures { Written out.old at (entries positions.now word.now) out.new result }
 {
     let mut next = at;
-    let mut i = 0;
-    while i < positions.len() {
-        let p = positions[i];
-        let k = p as usize;
-        next = put_pair(out, next, p, word[k]);
-        i += 1;
+    for &p in positions {
+        next = put_pair(out, next, p, word[p as usize]);
     }
     next
 }

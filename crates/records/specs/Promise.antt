@@ -1,7 +1,7 @@
 -- Demand 3 over records: a call of `decode_pairs` is one of the calls that the promise between two limits speaks of.
-use Rattle.std.specs.Prelude.{List, ℕ, Float}
-use Rattle.refusal.specs.declared.Status.{Status}
-use Rattle.refusal.specs.Answers.{status_of}
+use Rattle.std.specs.Prelude.{List, ℕ, Float, Result}
+use Rattle.refusal.specs.declared.Refusal.{Refusal}
+use Rattle.refusal.specs.Answers.{outcome_of}
 use Rattle.batch.specs.Calls.{Lent, batch, Answered}
 use Rattle.batch.specs.Promise.{Call}
 use Rattle.record_check.specs.declared.Pair.{Pair}
@@ -16,14 +16,14 @@ pub record RecordsCall : Type 0 where
   pub values : List Float
   pub records : List Pair
   pub memory : Lent
-  pub answer : Status
+  pub answer : Result Unit Refusal
   pub left : Lent
-  pub answered : Answered (batch code rule limit scale values (pairs_of records) memory) (status_of answer) left
+  pub answered : Answered (batch code rule limit scale values (pairs_of records) memory) (outcome_of answer) left
 
 abbrev pub called : RecordsCall → Call
 called c = record {
   handed = batch c.code c.rule c.limit c.scale c.values (pairs_of c.records) c.memory;
-  answer = status_of c.answer;
+  answer = outcome_of c.answer;
   left = c.left;
   answered = c.answered;
 }

@@ -3,7 +3,7 @@
 #![tactic(auto)]
 
 ghost use Rattle.std.specs.Prelude.{◌≡◌};
-ghost use Rattle.refusal.specs.Answers.{status_of};
+ghost use Rattle.refusal.specs.Answers.{outcome_of};
 ghost use Rattle.work_area.specs.Area.{cleared};
 ghost use Rattle.batch.specs.Codes.{size_n, size_k, decode_of};
 ghost use Rattle.batch.specs.Pairs.{pair, frame_of};
@@ -13,7 +13,7 @@ ghost use Rattle.record_check.specs.Fields.{pairs_of};
 
 use batch_refusals::Room;
 use record_check::Pair;
-use refusal::Status;
+use refusal::Refusal;
 
 // The frame of one record, decoded to place j of each output.
 fn decode_record(
@@ -60,13 +60,10 @@ fn decode_records(
         ≡ written (batch code rule limit scale values.now (pairs_of pairs.now)
         (lent bits.old counts.old rounds.old firsts.old work.old)) }
 {
-    let mut j = 0;
-    while j < pairs.len() {
-        let p = pairs[j];
+    for (j, &p) in pairs.iter().enumerate() {
         decode_record(
             code, rule, limit, scale, values, p, j, bits, counts, rounds, firsts, work,
         );
-        j += 1;
     }
     work_area::clear_area(work);
 }
@@ -84,26 +81,17 @@ pub fn decode_pairs(
     rounds: &mut [u16],
     firsts: &mut [u16],
     work: &mut [f32],
-) -> Status
+) -> Result<(), Refusal>
     ensures { Answered
         (batch code rule limit scale values.now (pairs_of pairs.now)
         (lent bits.old counts.old rounds.old firsts.old work.old))
-        (status_of result)
+        (outcome_of result)
         (lent bits.new counts.new rounds.new firsts.new work.new) }
 {
-    let room = Room {
-        bits: bits.len(),
-        counts: counts.len(),
-        rounds: rounds.len(),
-        firsts: firsts.len(),
-        work: work.len(),
-    };
-    let told = record_check::batch_fault(code, rule, values.len(), pairs, room);
-    if record_check::turned_down(told) {
-        return told;
-    }
+    let room = Room::of(bits, counts, rounds, firsts, work);
+    record_check::batch_fault(code, rule, values.len(), pairs, room)?;
     decode_records(
         code, rule, limit, scale, values, pairs, bits, counts, rounds, firsts, work,
     );
-    told
+    Ok(())
 }

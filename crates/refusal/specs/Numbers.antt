@@ -1,5 +1,5 @@
 -- The number of each refusal: document 01's, and those of the change requests, 14 and 15 of N5, 16 of N7, 17 and 18 of N10, 19 of N11, 20 of N13.
-use Rattle.std.specs.Prelude.{ℕ}
+use Rattle.std.specs.Prelude.{◌≡◌, ℕ}
 use Rattle.refusal.specs.declared.Refusal.{Refusal}
 use Rattle.refusal.specs.declared.Refusal.TheVariants.{
   UnknownCode,
@@ -45,3 +45,7 @@ number_of ByteOutOfRange = 17
 number_of NotEighths = 18
 number_of NoSuchPlace = 19
 number_of GroupSizes = 20
+
+-- what `u8::from` and `u16::from` give of a refusal
+abbrev pub numbers : Refusal → ℕ → Type 0
+numbers r n = n ≡ number_of r

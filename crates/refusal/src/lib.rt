@@ -1,71 +1,46 @@
-// What every call shares: the refusals, one case for each condition of document 01's table and of the change requests, and the two shapes of an answer.
+// What every call shares: the refusals, one case for each condition of document 01's table and of the change requests, each with its number.
 #![tactic(auto)]
 
-ghost use Rattle.std.specs.Prelude.{◌≡◌};
-ghost use Rattle.refusal.specs.Numbers.{number_of};
+ghost use Rattle.refusal.specs.Numbers.{numbers};
 
-#[derive(Clone, Copy)]
+// A call's answer is a `Result` with this error: `Result<(), Refusal>` where the call only writes, `Result<u16, Refusal>` where it gives a number.
+#[derive(Clone, Copy, Debug, PartialEq, Eq)]
 pub enum Refusal {
-    UnknownCode,
-    UnknownRule,
-    RuleNotOfCode,
-    InputLength,
-    WordTooShort,
-    MessageSlack,
-    TooManyPairs,
-    OutputLength,
-    WorkTooShort,
-    PairLength,
-    PairOrder,
-    PairPastEnd,
-    Malformed,
-    SumPastLimit,
-    NoFrames,
-    ErasureByte,
-    ByteOutOfRange,
-    NotEighths,
-    NoSuchPlace,
-    GroupSizes,
+    UnknownCode = 1,
+    UnknownRule = 2,
+    RuleNotOfCode = 3,
+    InputLength = 4,
+    WordTooShort = 5,
+    MessageSlack = 6,
+    TooManyPairs = 7,
+    OutputLength = 8,
+    WorkTooShort = 9,
+    PairLength = 10,
+    PairOrder = 11,
+    PairPastEnd = 12,
+    Malformed = 13,
+    SumPastLimit = 14,
+    NoFrames = 15,
+    ErasureByte = 16,
+    ByteOutOfRange = 17,
+    NotEighths = 18,
+    NoSuchPlace = 19,
+    GroupSizes = 20,
 }
 
-// The answer of a call that only writes: it is done, or turned down.
-#[derive(Clone, Copy)]
-pub enum Status {
-    Done,
-    Refused(Refusal),
+// The refusal's number, as narrow as it can be and as the lines of text take it.
+impl From<Refusal> for u8 {
+    ghost from_gives = { numbers };
+
+    fn from(r: Refusal) -> u8 {
+        r as u8
+    }
 }
 
-// The answer of a call that gives a number, or is turned down.
-#[derive(Clone, Copy)]
-pub enum Answer {
-    Value(u16),
-    Refused(Refusal),
-}
+impl From<Refusal> for u16 {
+    ghost from_gives = { numbers };
 
-// The refusal's number.
-pub fn number(r: Refusal) -> u8
-    ensures { result ≡ number_of r }
-{
-    match r {
-        Refusal::UnknownCode => 1,
-        Refusal::UnknownRule => 2,
-        Refusal::RuleNotOfCode => 3,
-        Refusal::InputLength => 4,
-        Refusal::WordTooShort => 5,
-        Refusal::MessageSlack => 6,
-        Refusal::TooManyPairs => 7,
-        Refusal::OutputLength => 8,
-        Refusal::WorkTooShort => 9,
-        Refusal::PairLength => 10,
-        Refusal::PairOrder => 11,
-        Refusal::PairPastEnd => 12,
-        Refusal::Malformed => 13,
-        Refusal::SumPastLimit => 14,
-        Refusal::NoFrames => 15,
-        Refusal::ErasureByte => 16,
-        Refusal::ByteOutOfRange => 17,
-        Refusal::NotEighths => 18,
-        Refusal::NoSuchPlace => 19,
-        Refusal::GroupSizes => 20,
+    fn from(r: Refusal) -> u16 {
+        r as u16
     }
 }

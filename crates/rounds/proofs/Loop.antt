@@ -1,5 +1,6 @@
 -- One turn of the round loop: what is kept is of the chosen word so far, the choice among the words still ahead is the choice among all, and the rounds
 -- run with those ahead are all. Assumes nothing.
+use Rattle.std.proofs.Common.{Option}
 use mathlib.Core.Path.{◌≡◌, sym, ap, ap₂, subst, ◌∙◌}
 use mathlib.Core.Bool.{true, false}
 use mathlib.Core.List.{List}
@@ -15,7 +16,6 @@ use Rattle.tanner.specs.Found.{first_of, syndrome_of}
 use Rattle.lists.specs.Below.{Below}
 use Rattle.tanner.proofs.First.{both}
 use Rattle.tanner.specs.declared.Counted.{Counted}
-use Rattle.tanner.specs.declared.FirstCheck.{FirstCheck}
 use Rattle.one_round.specs.Round.{Decode, answers, sent, first_messages, initial_word}
 use Rattle.rounds.specs.Rounds.{words_from, round_words}
 use Rattle.rounds.specs.Rounds.{rounds_run, unless_done, better, chosen_from, chosen, chosen_count, chosen_first, chosen_bits}
@@ -48,7 +48,7 @@ module _ (d : Decode) (m g : ℕ) (ms next : List Float) (w : Word) (found : ℕ
   pub round-masked : found ≡ count_masked 1 d.checks w
   round-masked = r.counted ∙ sym (ap (λ (s : Syndrome). s.count) masked)
 
-  pub round-found : (lowest : FirstCheck) → first_of lowest ≡ first_masked 1 d.checks w
+  pub round-found : (lowest : Option ℕ) → first_of lowest ≡ first_masked 1 d.checks w
       → syndrome_of (record { count = found; first = lowest }) ≡ syndrome d.checks w
   round-found lowest f = ap₂ both round-masked f ∙ masked
 

@@ -75,10 +75,8 @@ fn see_column(m: usize, d: usize, c: usize, work: &[f32]) -> Seen
         second: 1.0 / 0.0,
         sign: 1.0,
     };
-    let mut j = 0;
-    while j < d {
+    for j in 0..d {
         kept = note(kept, work[j * m + c]);
-        j += 1;
     }
     kept
 }
@@ -88,11 +86,9 @@ fn answer_column(scale: f32, kept: Seen, m: usize, d: usize, c: usize, work: &mu
     requires { (length work.old ≡ d * m) × (c < m) }
     ensures { ColumnIs m d c (map (answer_to scale kept) (column m d c work.old)) work.old work.new }
 {
-    let mut j = 0;
-    while j < d {
+    for j in 0..d {
         let at = j * m + c;
         work[at] = answer(scale, kept, work[at]);
-        j += 1;
     }
 }
 
@@ -111,10 +107,8 @@ fn min_sum_columns(rule: DecodeRule, m: usize, d: usize, work: &mut [f32])
     requires { length work.old ≡ d * m }
     ensures { AtColumns (min_sum (factor_of rule)) m d work.old work.new }
 {
-    let mut c = 0;
-    while c < m {
+    for c in 0..m {
         min_sum_column(rule, m, d, c, work);
-        c += 1;
     }
 }
 
@@ -123,14 +117,11 @@ pub fn min_sum_minima(rule: DecodeRule, m: usize, d: usize, work: &mut [f32])
     requires { length work.old ≡ d * m }
     ensures { AtColumns (min_sum (factor_of rule)) m d work.old work.new }
 {
-    if m == 256 && d == 5 {
-        return min_sum_columns(rule, 256, 5, work);
+    // Stays with numbers as arguments: const parameters would be no plainer, as the last arm has its sizes at run time and would need a second function.
+    match (m, d) {
+        (256, 5) => min_sum_columns(rule, 256, 5, work),
+        (192, 8) => min_sum_columns(rule, 192, 8, work),
+        (128, 11) => min_sum_columns(rule, 128, 11, work),
+        _ => min_sum_columns(rule, m, d, work),
     }
-    if m == 192 && d == 8 {
-        return min_sum_columns(rule, 192, 8, work);
-    }
-    if m == 128 && d == 11 {
-        return min_sum_columns(rule, 128, 11, work);
-    }
-    min_sum_columns(rule, m, d, work)
 }

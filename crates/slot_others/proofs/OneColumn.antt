@@ -2,10 +2,8 @@
 use mathlib.Core.Path.{◌≡◌, refl, sym, ap, subst, ◌∙◌}
 use mathlib.Core.List.{List}
 use Prim.Native.Nat.{ℕ, ◌+◌, ◌*◌, ◌<◌, ◌≤◌}
-use native.Mathlib.Omega.{arith}
 use lib.Ieee.{Float, nan}
 use lib.ListN.{length, take, get_or, set}
-use lib.Seq.{take_all}
 use Rattle.softmath.specs.CheckNode.{min_sum}
 use Rattle.by_others.specs.Others.{others_answer, others_sum}
 use Rattle.softmath.proofs.Steps.{each-length}
@@ -23,13 +21,8 @@ taken_more m d c j w r h k t =
     let inside : j < length (column m d c w) = rw (column-length m d c w) h in
     fill_more (column m d c w) nan r j (get_or w (j * m + c) nan) inside k (sym (entry_at m d c j (j * m + c) w h refl)) t
 
-pub taken_all : (m d c j : ℕ) (w r : List Float) → j ≡ d → take j r ≡ take j (column m d c w) → take d r ≡ column m d c w
-taken_all m d c j w r e t =
-    let all : length (column m d c w) ≤ d = omega (arith, column-length m d c w) in
-    (rw e at t) ∙ take_all d (column m d c w) all
-
-pub taken_size : (m d c : ℕ) (w r : List Float) → take d r ≡ column m d c w → d ≡ length (take d r)
-taken_size m d c w r e = sym (ap length e ∙ column-length m d c w)
+pub taken_all : (m d c j : ℕ) (w r : List Float) → d ≤ j → length r ≤ j → take j r ≡ take j (column m d c w) → r ≡ column m d c w
+taken_all m d c j w r h k t = fill_done (column m d c w) nan r j (rw (column-length m d c w) h) k t
 
 -- ---- put back, entry by entry
 
@@ -58,13 +51,6 @@ pub answers-put : (m c : ℕ) (s t : Float) (ms answers w v : List Float) → s 
 answers-put m c s t ms answers w v e q k =
     let same : answers ≡ others_sum t ms = q ∙ ap (λ (x : Float). others_sum x ms) e in
     subst (λ (d : ℕ). ColumnIs m d c (others_sum t ms) w v) (others-length t ms) (subst (λ (xs : List Float). ColumnIs m (length xs) c xs w v) same k)
-
--- the messages that were taken are the column
-pub column-put : (m d c : ℕ) (scale : Float) (ms w v : List Float) → ms ≡ column m d c w → ColumnIs m (length ms) c (others_sum scale ms) w v
-    → ColumnIs m d c (others_sum scale (column m d c w)) w v
-column-put m d c scale ms w v e k =
-    subst (λ (n : ℕ). ColumnIs m n c (others_sum scale (column m d c w)) w v) (column-length m d c w)
-    (subst (λ (xs : List Float). ColumnIs m (length xs) c (others_sum scale xs) w v) e k)
 
 -- both engines answer each column alike
 pub engines_same : (scale : Float) (m d : ℕ) (w v : List Float) → AtColumns (others_sum scale) m d w v → AtColumns (min_sum scale) m d w v

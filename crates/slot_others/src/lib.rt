@@ -2,26 +2,21 @@
 // and the answers put in their place.
 #![tactic(auto)]
 
-ghost use Rattle.std.specs.Prelude.{◌≡◌, ◌*◌, ◌<◌, ◌≤◌, length, take};
+ghost use Rattle.std.specs.Prelude.{◌≡◌, ◌*◌, ◌<◌, ◌≤◌, length};
 ghost use Rattle.softmath.specs.CheckNode.{min_sum, factor_of};
 ghost use Rattle.by_others.specs.Others.{others_sum};
 ghost use Rattle.slots.specs.Columns.{column, AtColumns, ColumnIs};
 
 use softmath::DecodeRule;
 
-// The messages of check c, at the front of an array.
-fn column_of(m: usize, d: usize, c: usize, work: &[f32]) -> [f32; 16]
-    requires work_len { (length work.now ≡ d * m) × (c < m) }
-    requires d_bound { d ≤ 16 }
-    ensures { (length result ≡ 16) × (take d result ≡ column m d c work.now) }
+// The messages of check c, into a slice as long as the check.
+fn column_of(m: usize, c: usize, work: &[f32], messages: &mut [f32])
+    requires { (length work.now ≡ length messages.old * m) × (c < m) }
+    ensures { messages.new ≡ column m (length messages.old) c work.now }
 {
-    let mut messages = [0.0f32; 16];
-    let mut j = 0;
-    while j < d {
-        messages[j] = work[j * m + c];
-        j += 1;
+    for (j, message) in messages.iter_mut().enumerate() {
+        *message = work[j * m + c];
     }
-    messages
 }
 
 // The answers to check c, in the place of its messages.
@@ -29,10 +24,8 @@ fn put_column(m: usize, c: usize, answers: &[f32], work: &mut [f32])
     requires { (length work.old ≡ length answers.now * m) × (c < m) }
     ensures { ColumnIs m (length answers.now) c answers.now work.old work.new }
 {
-    let mut j = 0;
-    while j < answers.len() {
-        work[j * m + c] = answers[j];
-        j += 1;
+    for (j, &answer) in answers.iter().enumerate() {
+        work[j * m + c] = answer;
     }
 }
 
@@ -60,9 +53,12 @@ fn answer_check(rule: DecodeRule, m: usize, d: usize, c: usize, work: &mut [f32]
     requires d_bound { d ≤ 16 }
     ensures { ColumnIs m d c (others_sum (factor_of rule) (column m d c work.old)) work.old work.new }
 {
-    let messages = column_of(m, d, c, work);
+    // Stays with room for 16: the memory of a decode is fixed, and what is read and written are slices as long as the check.
+    let mut messages = [0.0f32; 16];
     let mut answers = [0.0f32; 16];
-    replace_column(rule, m, c, &messages[..d], &mut answers[..d], work);
+    let column = &mut messages[..d];
+    column_of(m, c, work, column);
+    replace_column(rule, m, c, column, &mut answers[..d], work);
 }
 
 // Min-sum at every check.
@@ -71,10 +67,8 @@ fn min_sum_others(rule: DecodeRule, m: usize, d: usize, work: &mut [f32])
     requires d_bound { d ≤ 16 }
     ensures { AtColumns (others_sum (factor_of rule)) m d work.old work.new }
 {
-    let mut c = 0;
-    while c < m {
+    for c in 0..m {
         answer_check(rule, m, d, c, work);
-        c += 1;
     }
 }
 

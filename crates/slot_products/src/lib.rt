@@ -14,10 +14,8 @@ fn product_from(start: f32, m: usize, d: usize, c: usize, from: usize, work: &[f
     ensures { result ≡ fold_from ◌⊗◌ start (drop from (column m d c work.now)) }
 {
     let mut p = start;
-    let mut j = from;
-    while j < d {
-        p = p * work[j * m + c];
-        j += 1;
+    for j in from..d {
+        p *= work[j * m + c];
     }
     p
 }
@@ -28,13 +26,11 @@ fn product_column(m: usize, d: usize, c: usize, work: &mut [f32])
     ensures { ColumnIs m d c (at_each product (column m d c work.old)) work.old work.new }
 {
     let mut carried = 1.0;
-    let mut j = 0;
-    while j < d {
+    for j in 0..d {
         let at = j * m + c;
         let own = work[at];
         work[at] = product_from(carried, m, d, c, j + 1, work);
-        carried = carried * own;
-        j += 1;
+        carried *= own;
     }
 }
 
@@ -43,10 +39,8 @@ fn product_columns(m: usize, d: usize, work: &mut [f32])
     requires { length work.old ≡ d * m }
     ensures { AtColumns (at_each product) m d work.old work.new }
 {
-    let mut c = 0;
-    while c < m {
+    for c in 0..m {
         product_column(m, d, c, work);
-        c += 1;
     }
 }
 
@@ -55,17 +49,12 @@ pub fn products_slots(m: usize, d: usize, work: &mut [f32])
     requires { length work.old ≡ d * m }
     ensures { AtColumns (at_each product) m d work.old work.new }
 {
-    if m == 256 && d == 5 {
-        return product_columns(256, 5, work);
+    // Stays with numbers as arguments: const parameters would be no plainer, as the last arm has its sizes at run time and would need a second function.
+    match (m, d) {
+        (256, 5) => product_columns(256, 5, work),
+        (192, 8) => product_columns(192, 8, work),
+        (128, 11) => product_columns(128, 11, work),
+        (83, 7) => product_columns(83, 7, work),
+        _ => product_columns(m, d, work),
     }
-    if m == 192 && d == 8 {
-        return product_columns(192, 8, work);
-    }
-    if m == 128 && d == 11 {
-        return product_columns(128, 11, work);
-    }
-    if m == 83 && d == 7 {
-        return product_columns(83, 7, work);
-    }
-    product_columns(m, d, work)
 }

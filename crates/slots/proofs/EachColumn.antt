@@ -103,11 +103,3 @@ module _ (f : List Float → List Float) (m d : ℕ) (w : List Float) where
 
   pub done_all : (c : ℕ) (v : List Float) → m ≤ c → DoneTo f m d w c v → AtColumns f m d w v
   done_all c v g all = record { size = all.size; columns = λ k h. all.done k (omega (arith, g, h)) }
-
--- ---- at sizes that a test has found
-
-pub at_sizes : {f : List Float → List Float} {m d i j : ℕ} {w v : List Float} → m ≡ i → d ≡ j → AtColumns f i j w v → AtColumns f m d w v
-at_sizes p q a = rw (p, q) a
-
-pub room_at : {m d i j n : ℕ} → m ≡ i → d ≡ j → n ≡ d * m → n ≡ j * i
-room_at p q e = rw (p, q) at e

@@ -1,6 +1,6 @@
 -- f32 numbers: one rounded operation for each operation of the code, and the constants that document 01 names.
 -- (Document 01, "Rounds": "each float operation rounds once, in the order given here".)
-use Rattle.std.specs.Prelude.{List, [], ◌∷◌, Float}
+use Rattle.std.specs.Prelude.{List, fold, Float}
 use Rattle.std.specs.Float.{binary32}
 use Rattle.std.specs.Float.Ieee.{add, sub, mul, div, of_bits}
 
@@ -34,8 +34,7 @@ two32 = of_bits binary32 0x40000000
 
 -- an operation over a list, from the start on, left to right
 unfoldable pub fold_from : (Float → Float → Float) → Float → List Float → Float
-fold_from op start [] = start
-fold_from op start (x ∷ xs) = fold_from op (op start x) xs
+fold_from op start xs = fold op start xs
 
 -- "multiply from 1.0, in .. order"
 abbrev pub product : List Float → Float

@@ -32,8 +32,10 @@ pub fn fast_tanh(x: f32) -> f32
     let q = a / b;
     if x < -4.97 {
         -1.0
+    } else if x > 4.97 {
+        1.0
     } else {
-        if x > 4.97 { 1.0 } else { q }
+        q
     }
 }
 
@@ -53,8 +55,10 @@ pub fn clamp_unit(x: f32) -> f32
 {
     if x < -1.0 {
         -1.0
+    } else if x > 1.0 {
+        1.0
     } else {
-        if x > 1.0 { 1.0 } else { x }
+        x
     }
 }
 
@@ -92,9 +96,7 @@ pub fn factor_of(rule: DecodeRule) -> f32
     ensures { result ≡ factor_of rule }
 {
     match rule {
-        DecodeRule::SumProduct => 1.0,
-        DecodeRule::MinSum => 1.0,
         DecodeRule::ScaledMinSum(scale) => scale,
-        DecodeRule::Ft8 => 1.0,
+        DecodeRule::SumProduct | DecodeRule::MinSum | DecodeRule::Ft8 => 1.0,
     }
 }

@@ -29,8 +29,8 @@ fn print_float(rt: &impl Print, x: f32) -> io::Result<()> {
 }
 
 fn print_floats(rt: &impl Print, xs: &[f32]) -> io::Result<()> {
-    for x in xs {
-        print_float(rt, *x)?;
+    for &x in xs {
+        print_float(rt, x)?;
     }
     Ok(())
 }
@@ -67,20 +67,16 @@ fn load(bytes: &[u8; 52]) -> [f32; 11]
     ensures { 11 ≡ length result }
 {
     let mut floats = [0.0f32; 11];
-    let mut i = 0;
-    while i < FLOATS {
-        floats[i] = float_of(word(bytes, i + 2));
-        i += 1;
+    for (i, x) in floats.iter_mut().enumerate() {
+        *x = float_of(word(bytes, i + 2));
     }
     floats
 }
 
 fn functions(rt: &impl Print, floats: &[f32], n: usize) -> io::Result<()> {
-    for i in 0..n {
-        if i < floats.len() {
-            print_float(rt, softmath::fast_tanh(floats[i]))?;
-            print_float(rt, softmath::fast_atanh(floats[i]))?;
-        }
+    for &x in floats.iter().take(n) {
+        print_float(rt, softmath::fast_tanh(x))?;
+        print_float(rt, softmath::fast_atanh(x))?;
     }
     Ok(())
 }

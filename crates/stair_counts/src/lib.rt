@@ -10,7 +10,7 @@ ghost use Rattle.staircase.specs.Codes.{code_of, checks};
 ghost use Rattle.stair_counts.specs.Apart.{rows_apart};
 
 use staircase::tables::{N512R12_TAPS, N512R34_TAPS, N576R23_TAPS};
-use tanner::{Counted, FirstCheck};
+use tanner::Counted;
 
 // In how many of m rows two words differ in one of the row's parity bits: in its own or in the one before, and not in both.
 fn count_apart(k: usize, m: usize, word: &[u8], hard: &[u8]) -> u16
@@ -19,14 +19,12 @@ fn count_apart(k: usize, m: usize, word: &[u8], hard: &[u8]) -> u16
     requires m_bound { m < 65536 }
     ensures { result ≡ rows_apart k 0 m word.now hard.now }
 {
-    let mut found: u16 = 0;
-    let mut before: u8 = 0;
-    let mut i = 0;
-    while i < m {
+    let mut found = 0;
+    let mut before = 0;
+    for i in 0..m {
         let own = word[k + i] ^ hard[k + i];
         found += ((own ^ before) & 1) as u16;
         before = own;
-        i += 1;
     }
     found
 }
@@ -48,49 +46,23 @@ pub fn count(code: u32, hard: &[u8]) -> u16
     ensures { result ≡ count_masked 1 (checks (code_of code)) hard.now }
 {
     let mut word = [0; 576];
-    if code == 0 {
-        return count_in(0, 256, &mut word[..512], hard);
+    match code {
+        0 => count_in(0, 256, &mut word[..512], hard),
+        1 => count_in(1, 384, &mut word, hard),
+        _ => count_in(2, 384, &mut word[..512], hard),
     }
-    if code == 1 {
-        return count_in(1, 384, &mut word, hard);
-    }
-    count_in(2, 384, &mut word[..512], hard)
-}
-
-// The first row of each code. A function a code names its table, since a constant is laid where the function that names it starts.
-fn row_n512r12(hard: &[u8]) -> FirstCheck
-    requires { block_length n512r12 ≤ length hard.now }
-    ensures { first_of result ≡ first_masked 1 (checks n512r12) hard.now }
-{
-    stairs::first_row(3, 256, 256, &N512R12_TAPS, hard)
-}
-
-fn row_n576r23(hard: &[u8]) -> FirstCheck
-    requires { block_length n576r23 ≤ length hard.now }
-    ensures { first_of result ≡ first_masked 1 (checks n576r23) hard.now }
-{
-    stairs::first_row(6, 384, 192, &N576R23_TAPS, hard)
-}
-
-fn row_n512r34(hard: &[u8]) -> FirstCheck
-    requires { block_length n512r34 ≤ length hard.now }
-    ensures { first_of result ≡ first_masked 1 (checks n512r34) hard.now }
-{
-    stairs::first_row(9, 384, 128, &N512R34_TAPS, hard)
 }
 
 // The first of the unsatisfied checks.
-pub fn first(code: u32, hard: &[u8]) -> FirstCheck
+pub fn first(code: u32, hard: &[u8]) -> Option<u16>
     requires { block_length (code_of code) ≤ length hard.now }
     ensures { first_of result ≡ first_masked 1 (checks (code_of code)) hard.now }
 {
-    if code == 0 {
-        return row_n512r12(hard);
+    match code {
+        0 => stairs::first_row(3, 256, 256, &N512R12_TAPS, hard),
+        1 => stairs::first_row(6, 384, 192, &N576R23_TAPS, hard),
+        _ => stairs::first_row(9, 384, 128, &N512R34_TAPS, hard),
     }
-    if code == 1 {
-        return row_n576r23(hard);
-    }
-    row_n512r34(hard)
 }
 
 // Both: the scan is spared where the count is 0.
@@ -100,10 +72,7 @@ pub fn counted(code: u32, hard: &[u8]) -> Counted
 {
     let count = count(code, hard);
     if count == 0 {
-        return Counted {
-            count,
-            first: FirstCheck::Satisfied,
-        };
+        return Counted { count, first: None };
     }
     let first = first(code, hard);
     Counted { count, first }

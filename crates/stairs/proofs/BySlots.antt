@@ -95,7 +95,7 @@ module _ (k width m : ℕ) (table : List ℕ) (size : length table ≡ m * width
   taps-length : (c : ℕ) → c < m → length (taps_at width table c) ≡ width
   unfolding taps_at
   taps-length c h = length-take-le width (drop (c * width) table)
-      (simp length-drop (omega (arith, row_fits width m c (c * width) (length table) h refl (omega (arith, size)))))
+      (simp length-drop (omega (arith, row_fits width m c (length table) h (omega (arith, size)))))
 
   entries-most : (i : ℕ) → length (parity_entries k i) ≤ 2
   unfolding parity_entries

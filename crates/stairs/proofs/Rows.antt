@@ -12,22 +12,19 @@ use Rattle.tanner.specs.Checks.{xor_from}
 use Rattle.lists.specs.Below.{Below}
 use Rattle.lists.proofs.Below.{below-part, below_less}
 use Rattle.staircase.specs.Staircase.{parity_entries}
-use Rattle.staircase.specs.Shape.{taps_at, stair_row, stair_rows, stairs}
+use Rattle.staircase.specs.Shape.{taps_at, stair_row, stair_rows}
 use Rattle.stairs.specs.Stairs.{bit_before}
 
 -- ---- the row's place in the table
 
-pub row_fits : (width m i a n : ℕ) → i < m → a ≡ i * width → m * width ≤ n → a + width ≤ n
-row_fits width m i a n h e s =
+pub row_fits : (width m i n : ℕ) → i < m → m * width ≤ n → i * width + width ≤ n
+row_fits width m i n h s =
     let next : suc i ≤ m = h in
     omega (arith, suc-mul i width, mul-le-mul_right width next)
 
-pub row_next : (width i a : ℕ) → a ≡ i * width → a + width ≡ (i + 1) * width
-row_next width i a e = rw add-one (omega (arith, suc-mul i width))
-
-pub row_part : (width i a : ℕ) (table : List ℕ) → a ≡ i * width → take (a + width - a) (drop a table) ≡ taps_at width table i
+pub row_part : (width i : ℕ) (table : List ℕ) → take (i * width + width - i * width) (drop (i * width) table) ≡ taps_at width table i
 unfolding taps_at
-row_part width i a table e = rw (add-sub_cancel_left a width, e)
+row_part width i table = rw (add-sub_cancel_left (i * width) width)
 
 pub row_low : (k n width a : ℕ) (table : List ℕ) → k ≤ n → Below k table → Below n (take (a + width - a) (drop a table))
 row_low k n width a table h low = below_less k n _ h (below-part k table a (a + width) low)
@@ -47,11 +44,6 @@ rows_done k width m table i h =
     let e : m - i ≡ 0 = omega arith in
     rw e
 
-pub rows_all : (k width m : ℕ) (table : List ℕ) → stair_rows k width table 0 (m - 0) ≡ stairs k width m table
-rows_all k width m table =
-    let e : m - 0 ≡ m = omega arith in
-    rw e
-
 -- ---- the XOR of a row
 
 xor_append : (x : ℕ) (ps qs bytes : List ℕ) → xor_from x (ps ++ qs) bytes ≡ xor_from (xor_from x ps bytes) qs bytes
@@ -65,11 +57,11 @@ entries-xor k zero x bytes = rw (add-zero k, xor_zero_r (bit_xor x (get_or bytes
 entries-xor k (suc i) x bytes = refl
 
 -- its message positions, then its own parity bit, then the one before
-pub row-xor : (k width : ℕ) (table bytes : List ℕ) (i a x before : ℕ) → a ≡ i * width → x ≡ xor_from 0 (take (a + width - a) (drop a table)) bytes
-    → before ≡ bit_before k i bytes
+pub row-xor : (k width : ℕ) (table bytes : List ℕ) (i x before : ℕ)
+    → x ≡ xor_from 0 (take (i * width + width - i * width) (drop (i * width) table)) bytes → before ≡ bit_before k i bytes
     → bit_xor (bit_xor x (get_or bytes (k + i) 0)) before ≡ xor_from 0 (stair_row k width table i) bytes
-row-xor k width table bytes i a x before e f b =
-    let whole : x ≡ xor_from 0 (taps_at width table i) bytes = f ∙ ap (λ (ps : List ℕ). xor_from 0 ps bytes) (row_part width i a table e) in
+row-xor k width table bytes i x before f b =
+    let whole : x ≡ xor_from 0 (taps_at width table i) bytes = f ∙ ap (λ (ps : List ℕ). xor_from 0 ps bytes) (row_part width i table) in
     rw (whole, b) (sym (xor_append 0 (taps_at width table i) (parity_entries k i) bytes ∙ entries-xor k i (xor_from 0 (taps_at width table i) bytes) bytes))
 
 pub before_more : (k i : ℕ) (bytes : List ℕ) → get_or bytes (k + i) 0 ≡ bit_before k (i + 1) bytes

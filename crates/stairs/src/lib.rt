@@ -8,26 +8,20 @@ ghost use Rattle.tanner.specs.Found.{first_of};
 ghost use Rattle.staircase.specs.Shape.{stairs};
 ghost use Rattle.stairs.specs.Stairs.{Stairs};
 
-use tanner::FirstCheck;
-
 // The first row that the low bits leave unsatisfied: the scan ends there.
-pub fn first_row(width: usize, k: usize, m: usize, taps: &[u16], bytes: &[u8]) -> FirstCheck
+pub fn first_row(width: usize, k: usize, m: usize, taps: &[u16], bytes: &[u8]) -> Option<u16>
     requires { Stairs k width m (length bytes.now) taps.now }
     ensures { first_of result ≡ first_masked 1 (stairs k width m taps.now) bytes.now }
 {
-    let mut last: u8 = 0;
-    let mut a = 0;
-    let mut i = 0;
-    while i < m {
-        let b = a + width;
+    let mut last = 0;
+    for i in 0..m {
+        let a = i * width;
         let own = bytes[k + i];
-        let sum = tanner::xor_at(&taps[a..b], bytes) ^ own ^ last;
+        let sum = tanner::xor_at(&taps[a..a + width], bytes) ^ own ^ last;
         if sum & 1 != 0 {
-            return FirstCheck::Check(i as u16);
+            return Some(i as u16);
         }
         last = own;
-        a = b;
-        i += 1;
     }
-    FirstCheck::Satisfied
+    None
 }

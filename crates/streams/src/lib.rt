@@ -13,10 +13,7 @@ const TRIES: usize = 1000000;
 
 // Whether the call that has just failed may do better later: a signal came between, or the other end of a pipe that does not wait is not ready.
 fn passing(error: &io::Error) -> bool {
-    if error.kind() == ErrorKind::Interrupted {
-        return true;
-    }
-    error.kind() == ErrorKind::WouldBlock
+    matches!(error.kind(), ErrorKind::Interrupted | ErrorKind::WouldBlock)
 }
 
 // How often more to try after a call that failed: once less where it may do better, and else no more, with the error.
@@ -41,6 +38,7 @@ pub fn read_all<R: Read>(reader: &mut R, input: &mut [u8]) -> io::Result<usize>
 {
     let mut n = 0;
     let mut tries = TRIES;
+    // Stays a `while` over a count: each turn goes on by as many bytes as the read gave, which no range counts out, and the count is the answer.
     while n < input.len() {
         match reader.read(&mut input[n..]) {
             Ok(0) => return Ok(n),
@@ -55,12 +53,12 @@ pub fn read_all<R: Read>(reader: &mut R, input: &mut [u8]) -> io::Result<usize>
 pub fn write_text<W: Write>(writer: &mut W, text: &[u8]) -> io::Result<()>
     ensures { OnOk result (Appends (W.contents writer.old) (W.contents writer.new) text.now) }
 {
-    let mut done = 0;
+    let mut rest = text;
     let mut tries = TRIES;
-    while done < text.len() {
-        match writer.write(&text[done..]) {
+    while !rest.is_empty() {
+        match writer.write(rest) {
             Ok(0) => return Err(io::Error::from(ErrorKind::WriteZero)),
-            Ok(more) => done += more,
+            Ok(more) => rest = &rest[more..],
             Err(error) => tries = tries_left(error, tries)?,
         }
     }

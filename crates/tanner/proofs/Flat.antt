@@ -65,7 +65,8 @@ all_below n (r ∷ rs) low = more (below_left n r (joined rs) low) (all_below n 
 
 -- ---- one list of those laid flat
 
-cut_at : (s flat : List ℕ) (a b : ℕ) → b < length s → get_or (cut a s flat) b [] ≡ take (get_or (a ∷ s) (suc b) 0 - get_or (a ∷ s) b 0) (drop (get_or (a ∷ s) b 0) flat)
+cut_at : (s flat : List ℕ) (a b : ℕ) → b < length s
+    → get_or (cut a s flat) b [] ≡ take (get_or (a ∷ s) (suc b) 0 - get_or (a ∷ s) b 0) (drop (get_or (a ∷ s) b 0) flat)
 unfolding cut
 cut_at [] flat a b h = absurd (omega arith)
 cut_at (e ∷ s) flat a zero h = refl

@@ -1,17 +1,16 @@
--- One turn of each counting loop: what is left to do, said of the rest of the list. Assumes nothing.
+-- One turn of the loops over a check's positions and over the checks: what is left to do, said of the rest of the list. Assumes nothing.
 use mathlib.Core.Path.{◌≡◌, sym, subst}
 use mathlib.Core.List.{List, [], ◌∷◌}
 use mathlib.Core.Bool.{cond}
 use Prim.Native.Nat.{ℕ, suc, ◌+◌, ◌-◌, ◌<◌, ◌≤◌}
 use native.Mathlib.Numerals.{add-one}
-use native.Mathlib.Omega.{arith}
 use lib.Bits.{bit_and, bit_xor}
 use lib.Dec.{eqb}
 use lib.ListN.{length, get_or, take, drop, drop_of_length-le}
 use lib.Seq.{drop-cons}
 use borrow.Author.Tests.{eq-eqb, ne_eqb}
 use Rattle.tanner.specs.Checks.{Checks, First, check, none, xor_from, nonzero, first_by}
-use Rattle.tanner.specs.Masked.{count_masked, measured}
+use Rattle.tanner.specs.Masked.{measured}
 use Rattle.tanner.specs.Flat.{cut, rows_from}
 
 pub xor_more : (ps bytes : List ℕ) (x i z : ℕ) → i < length ps → xor_from x (drop i ps) bytes ≡ z
@@ -31,23 +30,6 @@ rows_more s f c h = rw (drop-cons s (c + 1) 0, add-one (c + 1))
 pub rows_done : (s f : List ℕ) (c : ℕ) → length s ≤ c + 1 → rows_from s c f ≡ []
 unfolding rows_from cut
 rows_done s f c h = rw (drop_of_length-le s h)
-
--- one turn of a count: the next of the checks that are left
-module _ (mask : ℕ) (bytes r : List ℕ) (rest rs : Checks) (u z x : ℕ) (h : rest ≡ r ∷ rs) (e : x ≡ xor_from 0 r bytes)
-    (i : u + count_masked mask rest bytes ≡ z) where
-  counted : u + (nonzero (bit_and x mask) + count_masked mask rs bytes) ≡ z
-  unfolding count_masked
-  counted = rw e (rw h at i)
-
-  pub count-more : (bit_and x mask ≡ 0 → ⊥) → u + 1 + count_masked mask rs bytes ≡ z
-  count-more n = omega (arith, simp (ne_eqb _ _ n) at counted)
-
-  pub count_same : bit_and x mask ≡ 0 → u + count_masked mask rs bytes ≡ z
-  count_same n = omega (arith, simp (eq-eqb _ _ n) at counted)
-
-pub count-done : (mask : ℕ) (bytes : List ℕ) (rest : Checks) (u z : ℕ) → rest ≡ [] → u + count_masked mask rest bytes ≡ z → u ≡ z
-unfolding count_masked
-count-done mask bytes rest u z h e = omega (arith, rw h at e)
 
 -- ---- one turn of the scan for the first check
 

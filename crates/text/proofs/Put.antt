@@ -1,12 +1,13 @@
 -- Texts put into a buffer one after the other are one text: by splitting the buffer at the places. Assumes nothing.
 use mathlib.Core.Path.{◌≡◌, refl, sym, ap, ◌∙◌}
 use mathlib.Core.List.{List, [], ◌∷◌, ◌++◌, append_assoc}
-use Prim.Native.Nat.{ℕ, ◌+◌, ◌≤◌, ◌<◌}
+use Prim.Native.Nat.{ℕ, ◌+◌, ◌-◌, ◌≤◌, ◌<◌}
 use native.Mathlib.Nat.{add-zero, add_assoc}
 use native.Mathlib.Numerals.{add-one}
 use native.Mathlib.Omega.{arith}
 use lib.ListN.{length, take, drop, set, length-append, length-drop, take-append-drop}
 use lib.Seq.{length-take-le, set_split, take_at, drop-append-add, drop-drop}
+use borrow.Rule.Slice.PartMut.{put_mid}
 use Rattle.text.specs.Written.{put, Written}
 
 pub put_nil : (out : List ℕ) (at : ℕ) → put out at [] ≡ out
@@ -65,6 +66,14 @@ nothing out at = record { bytes = sym (put_nil out at); end = sym (add-zero at) 
 
 pub one : (out : List ℕ) (at b : ℕ) → at < length out → Written out at (b ∷ []) (set out at b) (at + 1)
 one out at b h = record { bytes = put_one out at b h; end = refl }
+
+-- what stands after a copy over the text's bytes
+pub copied : (out : List ℕ) (at : ℕ) (text part : List ℕ) → part ≡ text
+    → Written out at text (put_mid at (at + length text - at) out part) (at + length text)
+unfolding put
+copied out at text part e =
+    let size : at + length text - at ≡ length text = omega arith in
+    record { bytes = rw (e, size, drop-drop (length text) at out); end = refl }
 
 -- ---- a loop of writers: what is left to write
 

@@ -19,18 +19,13 @@ pub fn put_text(out: &mut [u8], at: usize, text: &[u8]) -> usize
     requires { at + length text.now ≤ length out.old }
     ensures { Written out.old at text.now out.new result }
 {
-    let mut next = at;
-    let mut i = 0;
-    while i < text.len() {
-        out[next] = text[i];
-        next += 1;
-        i += 1;
-    }
+    let next = at + text.len();
+    out[at..next].copy_from_slice(text);
     next
 }
 
 // The digit of weight p, unless the number is below p.
-pub fn put_leading(out: &mut [u8], at: usize, p: u16, n: u16) -> usize
+pub fn put_leading(out: &mut [u8], at: usize, p: u64, n: u64) -> usize
     requires p_nonzero { 0 < p }
     requires n_in_bounds { at + length (leading p n) ≤ length out.old }
     ensures { Written out.old at (leading p n) out.new result }
@@ -46,6 +41,7 @@ pub fn put_decimal(out: &mut [u8], at: usize, n: u16) -> usize
     requires { at + length (decimal n) ≤ length out.old }
     ensures { Written out.old at (decimal n) out.new result }
 {
+    let n = n as u64;
     let a = put_leading(out, at, 10000, n);
     let b = put_leading(out, a, 1000, n);
     let c = put_leading(out, b, 100, n);
@@ -60,7 +56,7 @@ pub fn put_decimal(out: &mut [u8], at: usize, n: u16) -> usize
 pub fn bit_at(bits: &[u8], i: usize) -> u8
     ensures { result ≡ bit_at bits.now i }
 {
-    if i < bits.len() { bits[i] % 2 } else { 0 }
+    bits.get(i).map_or(0, |bit| bit % 2)
 }
 
 // Eight bits as a byte.
@@ -98,10 +94,9 @@ pub fn put_hex_word(out: &mut [u8], at: usize, n: u16) -> usize
     requires { at + 4 ≤ length out.old }
     ensures { Written out.old at (hex_word n) out.new result }
 {
-    let high = n / 256;
-    let low = n % 256;
-    let next = put_hex_byte(out, at, high as u8);
-    put_hex_byte(out, next, low as u8)
+    let [high, low] = n.to_be_bytes();
+    let next = put_hex_byte(out, at, high);
+    put_hex_byte(out, next, low)
 }
 
 // Bits packed into bytes, in hexadecimal.
@@ -110,11 +105,8 @@ pub fn put_hex(out: &mut [u8], at: usize, bits: &[u8]) -> usize
     ensures { Written out.old at (hex bits.now) out.new result }
 {
     let mut next = at;
-    let mut i = 0;
-    while i < bits.len() {
-        let byte = byte_at(bits, i);
-        next = put_hex_byte(out, next, byte);
-        i += 8;
+    for eight in bits.chunks(8) {
+        next = put_hex_byte(out, next, byte_at(eight, 0));
     }
     next
 }

@@ -20,38 +20,34 @@ use Rattle.variable_node.specs.Passes.{turns, Pass, pass_of, bit_done, message_t
 -- ---- the table
 
 -- the three entries of bit b
-three_entries : (table : List ℕ) (b a : ℕ) → a ≡ b * 3 → a + 3 ≤ length table
-    → three_at table b ≡ get_or table a 0 ∷ (get_or table (a + 1) 0 ∷ (get_or table (a + 2) 0 ∷ []))
+three_entries : (table : List ℕ) (b : ℕ) → b * 3 + 3 ≤ length table
+    → three_at table b ≡ get_or table (b * 3) 0 ∷ (get_or table (b * 3 + 1) 0 ∷ (get_or table (b * 3 + 2) 0 ∷ []))
 unfolding three_at
-three_entries table b a e h =
+three_entries table b h =
+    let a = b * 3 in
     let one : a + 1 ≡ suc a = omega arith in
     let two : a + 2 ≡ suc (suc a) = omega arith in
-    rw (← e, drop-cons table a 0 (omega arith), drop-cons table (suc a) 0 (omega arith), drop-cons table (suc (suc a)) 0 (omega arith), one, two)
+    rw (drop-cons table a 0 (omega arith), drop-cons table (suc a) 0 (omega arith), drop-cons table (suc (suc a)) 0 (omega arith), one, two)
 
-pub table-room : (n : ℕ) (table : List ℕ) (k b a : ℕ) → Listed n table k → b < n → a ≡ b * 3 → a + 3 ≤ length table
-table-room n table k b a l h e = omega (arith, l.size)
-
-pub table-low : (n : ℕ) (table : List ℕ) (k i : ℕ) → Listed n table k → i < length table → get_or table i 0 < k
-unfolding Below
-table-low n table k i l h = l.low i h
+pub table-room : (n : ℕ) (table : List ℕ) (k b : ℕ) → Listed n table k → b < n → b * 3 + 3 ≤ length table
+table-room n table k b l h = omega (arith, l.size)
 
 -- each of a bit's three entries names a place of a message
-pub entry_low : (n : ℕ) (table : List ℕ) (k b a i m : ℕ) → Listed n table k → b < n → a ≡ b * 3 → i < a + 3 → m ≡ k → get_or table i 0 < m
-entry_low n table k b a i m l h e j s =
-    let room = table-room n table k b a l h e in
-    let low : get_or table i 0 < k = table-low n table k i l (omega arith) in
-    omega arith
+pub entry_low : (n : ℕ) (table : List ℕ) (k b i m : ℕ) → Listed n table k → b < n → i < b * 3 + 3 → m ≡ k → get_or table i 0 < m
+unfolding Below
+entry_low n table k b i m l h j s = omega (arith, l.low i (omega (arith, l.size)))
 
 -- ---- three edges
 
-pub listed-first_more : (llr : List Float) (table : List ℕ) (b a : ℕ) (w w₀ : List Float) → a ≡ b * 3 → a + 3 ≤ length table
+pub listed-first_more : (llr : List Float) (table : List ℕ) (b : ℕ) (w w₀ : List Float) → b * 3 + 3 ≤ length table
     → w ≡ turns (three_first llr table) b w₀
-    → set (set (set w (get_or table a 0) (get_or llr b nan)) (get_or table (a + 1) 0) (get_or llr b nan)) (get_or table (a + 2) 0) (get_or llr b nan)
+    → set (set (set w (get_or table (b * 3) 0) (get_or llr b nan)) (get_or table (b * 3 + 1) 0) (get_or llr b nan))
+    (get_or table (b * 3 + 2) 0) (get_or llr b nan)
     ≡ turns (three_first llr table) (b + 1) w₀
 unfolding turns three_first scattered
-listed-first_more llr table b a w w₀ e h i =
+listed-first_more llr table b w w₀ h i =
     let n : b + 1 ≡ suc b = omega arith in
-    rw (n, ← i, three_entries table b a e h)
+    rw (n, ← i, three_entries table b h)
 
 -- the new messages of three answers
 three_messages : (kind : SumKind) (l x y z : Float) → let t = l ⊕ (((zero32 ⊕ x) ⊕ y) ⊕ z) in
@@ -60,7 +56,10 @@ unfolding new_messages message_to fold_from over_others
 three_messages Total l x y z = refl
 three_messages Others l x y z = refl
 
-module _ (kind : SumKind) (llr : List Float) (table : List ℕ) (b a : ℕ) (e : a ≡ b * 3) (h : a + 3 ≤ length table) (w : List Float) where
+module _ (kind : SumKind) (llr : List Float) (table : List ℕ) (b : ℕ) (h : b * 3 + 3 ≤ length table) (w : List Float) where
+  abbrev a : ℕ
+  a = b * 3
+
   abbrev l : Float
   l = get_or llr b nan
 
@@ -83,4 +82,4 @@ module _ (kind : SumKind) (llr : List Float) (table : List ℕ) (b a : ℕ) (e :
   unfolding turns three_turn bit_done answers_at put_at fold_from
   listed_more hard s bit f g k i eb ef eg ek =
       let n : b + 1 ≡ suc b = omega arith in
-      rw (n, ← i, three_entries table b a e h, three_messages kind l x y z, eb, ef, eg, ek)
+      rw (n, ← i, three_entries table b h, three_messages kind l x y z, eb, ef, eg, ek)

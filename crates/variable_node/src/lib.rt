@@ -13,9 +13,8 @@ pub fn listed_first(n: usize, llr: &[f32], table: &[u16], messages: &mut [f32])
     requires listed { Listed n table.now (length messages.old) }
     ensures { messages.new ≡ turns (three_first llr.now table.now) n messages.old }
 {
-    let mut a = 0;
-    let mut b = 0;
-    while b < n {
+    for b in 0..n {
+        let a = b * 3;
         let l = llr[b];
         let p = table[a] as usize;
         let q = table[a + 1] as usize;
@@ -23,8 +22,6 @@ pub fn listed_first(n: usize, llr: &[f32], table: &[u16], messages: &mut [f32])
         messages[p] = l;
         messages[q] = l;
         messages[r] = l;
-        a += 3;
-        b += 1;
     }
 }
 
@@ -53,9 +50,8 @@ pub fn listed_bits(
     ensures { pass_of hard.new messages.new
         ≡ turns (three_turn kind llr.now table.now) n (pass_of hard.old messages.old) }
 {
-    let mut a = 0;
-    let mut b = 0;
-    while b < n {
+    for b in 0..n {
+        let a = b * 3;
         let l = llr[b];
         let p = table[a] as usize;
         let q = table[a + 1] as usize;
@@ -68,7 +64,5 @@ pub fn listed_bits(
         messages[p] = new_message(kind, l, total, x, y, z);
         messages[q] = new_message(kind, l, total, y, x, z);
         messages[r] = new_message(kind, l, total, z, x, y);
-        a += 3;
-        b += 1;
     }
 }

@@ -3,7 +3,7 @@
 
 ghost use Rattle.std.specs.Prelude.{◌≡◌, [], false, ◌+◌, ◌<◌, ◌≤◌, length, take};
 ghost use Rattle.refusal.specs.Outcome.{judged};
-ghost use Rattle.refusal.specs.Answers.{status_of};
+ghost use Rattle.refusal.specs.Answers.{outcome_of};
 ghost use Rattle.text.specs.Written.{Written};
 ghost use Rattle.batch.specs.Codes.{size_n};
 ghost use Rattle.batch.specs.Pairs.{pairs_of, AllWithin};
@@ -12,7 +12,8 @@ ghost use Rattle.batch_input.specs.Input.{code_of, rule_of, limit_of, scale_of, 
 ghost use Rattle.why.specs.Why.{asked_refusals, frame_at, frame_line, why_of, asked_line};
 
 use batch_refusals::Room;
-use refusal::{Refusal, Status};
+use numbered::Code;
+use refusal::Refusal;
 use work_area::WORK;
 
 // ---- the frame asked about
@@ -24,11 +25,11 @@ fn word_room() -> [u8; 576]
 }
 
 // Whether a batch and a place in it are turned down, and by which number: the batch's refusals, and then the place.
-fn input_fault(place: u16, input: &[u8], values: &[f32], pairs: &[u32]) -> Status
+fn input_fault(place: u16, input: &[u8], values: &[f32], pairs: &[u32]) -> Result<(), Refusal>
     requires input_value { malformed input.now ≡ false }
     requires values_value { values.now ≡ values_of input.now }
     requires pairs_value { pairs.now ≡ take 50 (pair_numbers input.now) }
-    ensures { status_of result ≡ judged (asked_refusals place input.now) tt }
+    ensures { outcome_of result ≡ judged (asked_refusals place input.now) tt }
 {
     let head = batch_input::read_header(input);
     let frames = batch_input::pair_count(input);
@@ -39,19 +40,11 @@ fn input_fault(place: u16, input: &[u8], values: &[f32], pairs: &[u32]) -> Statu
         firsts: frames,
         work: WORK,
     };
-    if let Status::Refused(r) = batch_refusals::batch_fault(
-        head.code,
-        head.rule,
-        values.len(),
-        pairs,
-        room,
-    ) {
-        return Status::Refused(r);
-    }
+    batch_refusals::batch_fault(head.code, head.rule, values.len(), pairs, room)?;
     if place as usize >= frames {
-        return Status::Refused(Refusal::NoSuchPlace);
+        return Err(Refusal::NoSuchPlace);
     }
-    Status::Done
+    Ok(())
 }
 
 // The line of the frame that a pair names: so many pairs name frames within the values.
@@ -67,10 +60,10 @@ fn explain(place: u16, input: &[u8], values: &[f32], pairs: &[u32], out: &mut [u
     ensures upper_bound { result ≤ 256 }
 {
     let head = batch_input::read_header(input);
-    let code = head.code;
+    let code = Code::of_number(head.code);
     let j = place as usize;
     let from = pairs[j * 2] as usize;
-    let n = batch_refusals::frame_values(code);
+    let n = code.n();
     let to = from + n;
     let mut word = word_room();
     let mut work = [0.0f32; WORK];
@@ -95,8 +88,8 @@ fn why_frame(place: u16, input: &[u8], values: &[f32], pairs: &[u32], out: &mut 
     ensures written { Written out.old 0 (asked_line place input.now) out.new result }
     ensures upper_bound { result ≤ 256 }
 {
-    if let Status::Refused(r) = input_fault(place, input, values, pairs) {
-        return text::refusal_line(out, 0, refusal::number(r) as u16);
+    if let Err(r) = input_fault(place, input, values, pairs) {
+        return text::refusal_line(out, 0, u16::from(r));
     }
     explain(place, input, values, pairs, out)
 }

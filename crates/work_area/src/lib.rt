@@ -14,10 +14,8 @@ pub fn initial_word(llr: &[f32], hard: &mut [u8])
     requires { length hard.old ≡ length llr.now }
     ensures { hard.new ≡ map decide llr.now }
 {
-    let mut i = 0;
-    while i < llr.len() {
-        hard[i] = softmath::decide(llr[i]);
-        i += 1;
+    for (i, bit) in hard.iter_mut().enumerate() {
+        *bit = softmath::decide(llr[i]);
     }
 }
 
@@ -26,22 +24,14 @@ pub fn keep_word(hard: &[u8], bits: &mut [u8])
     requires { length bits.old ≤ length hard.now }
     ensures { bits.new ≡ take (length bits.old) hard.now }
 {
-    let mut i = 0;
-    while i < bits.len() {
-        bits[i] = hard[i];
-        i += 1;
-    }
+    bits.copy_from_slice(&hard[..bits.len()]);
 }
 
 // Every place +0.0.
 fn clear(part: &mut [f32])
     ensures { part.new ≡ replicate (length part.old) zero32 }
 {
-    let mut i = 0;
-    while i < part.len() {
-        part[i] = 0.0;
-        i += 1;
-    }
+    part.fill(0.0);
 }
 
 // The first 3,070 places of a work area +0.0.

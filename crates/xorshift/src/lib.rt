@@ -22,16 +22,17 @@ pub fn draw(state: u64) -> u64
 }
 
 // The generator: its state is lent, and advanced once per pick.
-#[derive(Drop)]
+#[derive(Clone, Copy, PartialEq, Eq)]
 pub struct Xorshift {
     pub state: u64,
 }
 
-// The next draw, which is the state from then on.
-pub fn next(generator: &mut Xorshift) -> u64
-    ensures { (result ≡ draw generator.old.state) × (generator.new.state ≡ result) }
-{
-    let drawn = draw(generator.state);
-    generator.state = drawn;
-    drawn
+impl Xorshift {
+    // The next draw, which is the state from then on.
+    pub fn next(&mut self) -> u64
+        ensures { (result ≡ draw self.old.state) × (self.new.state ≡ result) }
+    {
+        self.state = draw(self.state);
+        self.state
+    }
 }

@@ -1,14 +1,16 @@
 -- `batch::decode_batch` meets its contract: the tests, and then the frames. Assumes nothing.
-use mathlib.Core.Path.{sym, ap, ◌∙◌}
-use Rattle.refusal.specs.Answers.{status_of}
+use Rattle.std.proofs.Common.{sym}
+use Rattle.refusal.proofs.Exits.{exit}
 use Rattle.batch.proofs.Whole.{fitting, turned_down, carried-out}
 use Rattle.batch.proofs.decode_batch.Goals as goal
 
-pub returns-in-Refused : goal.returns-in-Refused
-returns-in-Refused c = turned_down _ _ (sym c.batch_fault.ensures ∙ ap status_of c.in-Refused.is)
+pub returns-in_err-batch_fault : goal.returns-in_err-batch_fault
+returns-in_err-batch_fault c =
+    rw (exit c.from_residual.result _ c.from_residual.ensures.1)
+    (turned_down _ _ (sym (rw c.of-room.ensures at c.in_err-batch_fault.ensures)))
 
 pub decode_frames-requires : goal.decode_frames-requires
-decode_frames-requires c = fitting _ (sym c.batch_fault.ensures ∙ ap status_of c.in_default.is)
+decode_frames-requires c = fitting _ (sym (rw c.of-room.ensures at c.in_ok-batch_fault.ensures))
 
 pub returns : goal.returns
-returns c = carried-out _ (sym c.batch_fault.ensures ∙ ap status_of c.in_default.is) _ c.decode_frames.ensures
+returns c = carried-out _ (sym (rw c.of-room.ensures at c.in_ok-batch_fault.ensures)) _ c.decode_frames.ensures

@@ -15,7 +15,7 @@ use Rattle.batch_figures.proofs.Frames.{frames_more, frames-none, frames-added}
 use Rattle.batch_figures.proofs.add_frames.Goals as goal
 
 pub loop-j-init : goal.loop-j-init
-loop-j-init c = (omega arith, rw sub-zero)
+loop-j-init c = rw sub-zero
 
 -- in a turn there is a frame at place j
 pub clean_at-clean-requires : goal.clean_at-clean-requires
@@ -32,20 +32,6 @@ bounds-rounds-j c =
     let place : c.loop-j.j < many = omega (arith, c.loop-j-test.true, c.requires.counts_len.0) in
     omega (arith, place, c.requires.rounds_len)
 
-pub overflow_add-j : goal.overflow_add-j
-overflow_add-j c =
-    let a = c.args in
-    let many = length (pairs_of a.pairs.now) in
-    let place : c.loop-j.j < many = omega (arith, c.loop-j-test.true, c.requires.counts_len.0) in
-    omega (arith, place, c.requires.pairs_len_bound)
-
-pub loop-j-smaller : goal.loop-j-smaller
-loop-j-smaller c =
-    let a = c.args in
-    let many = length (pairs_of a.pairs.now) in
-    let place : c.loop-j.j < many = omega (arith, c.loop-j-test.true, c.requires.counts_len.0) in
-    omega (arith, place)
-
 -- the frame that is added is the one at that place
 pub loop-j-preserved : goal.loop-j-preserved
 unfolding with_frames
@@ -58,8 +44,8 @@ loop-j-preserved c =
     let same : ◌≡◌ {A = Frame} added (frame_at handed c.loop-j.j) = rw c.clean_at-clean.ensures in
     let rest = frames_from (frame_at handed) (c.loop-j.j + 1) (many - (c.loop-j.j + 1)) in
     let one = c.with_frame-sum.ensures ∙ ap (with_frame (summed_of c.loop-j.sum)) same in
-    let more = rw (frames_more (frame_at handed) c.loop-j.j many place) at c.loop-j.invariant.1 in
-    (omega (arith, place), ap (λ (s : Outcome Totals). with_frames s rest) one ∙ more)
+    let more = rw (frames_more (frame_at handed) c.loop-j.j many place) at c.loop-j.invariant in
+    ap (λ (s : Outcome Totals). with_frames s rest) one ∙ more
 
 -- what the total's fields hold at most: they were given so
 pub returns : goal.returns
@@ -70,5 +56,5 @@ returns c =
     let handed = results a.code a.values.now (pairs_of a.pairs.now) a.bits.now a.counts.now a.rounds.now in
     let within : Within a.total = record { frames = omega arith; clean = omega arith; counts = omega arith; rounds = omega arith } in
     let end : many ≤ c.loop-j.j = omega (arith, c.loop-j-test.false, c.requires.counts_len.0) in
-    rw (frames-none (frame_at handed) c.loop-j.j many end) at c.loop-j.invariant.1
+    rw (frames-none (frame_at handed) c.loop-j.j many end) at c.loop-j.invariant
     ∙ frames-added a.total (frames_from (frame_at handed) 0 many) within

@@ -1,18 +1,18 @@
 -- `batch_refusals::pairs_fault` meets its contract. The invariant: what the pairs that are left come to is what all come to. Assumes nothing.
-use mathlib.Core.Path.{◌∙◌}
-use native.Mathlib.Omega.{arith}
-use Rattle.batch_refusals.specs.Steps.{seen_of}
-use Rattle.batch_refusals.proofs.Pairs.{seen-pairs, seen_more, seen_last, pairs_next, pairs-done}
+use Rattle.std.proofs.Common.{◌∙◌, []}
+use Rattle.refusal.specs.Answers.{outcome_of}
+use Rattle.batch_refusals.proofs.Pairs.{of-two, twos-pairs, seen-pairs, one-checked, all-checked}
 use Rattle.batch_refusals.proofs.pairs_fault.Goals as goal
 
-pub loop-i-init : goal.loop-i-init
-loop-i-init c = (omega arith, seen-pairs _ _ 0 _)
+pub loop-offset-init : goal.loop-offset-init
+loop-offset-init c = rw (c.as_chunks.ensures.front, twos-pairs c.args.pairs.now) (seen-pairs _ _ 0 _)
 
-pub loop-i-preserved : goal.loop-i-preserved
-loop-i-preserved c = let turn = c in
-    let l = turn.loop-i in
-    (omega arith, seen_more _ _ (seen_of l.seen) _ _ c.next_pair-seen.ensures (rw (pairs_next _ _ turn.loop-i-test.true) at l.invariant.1))
+pub loop-offset-preserved : goal.loop-offset-preserved
+loop-offset-preserved c =
+    one-checked of-two _ _ _ c.loop-offset.offset-index (outcome_of c.loop-offset.seen) [] c.loop-offset-test.true c.next_pair-seen.ensures
+    c.loop-offset.invariant
 
 pub returns : goal.returns
-returns c = let l = c.loop-i in
-    c.seen_all.ensures ∙ seen_last _ _ (seen_of l.seen) (rw (pairs-done _ _ c.loop-i-test.false) at l.invariant.1)
+returns c =
+    c.seen_all.ensures
+    ∙ all-checked of-two _ _ _ c.loop-offset.offset-index (outcome_of c.loop-offset.seen) c.loop-offset-test.false c.loop-offset.invariant

@@ -1,11 +1,7 @@
--- `checksum::last_bits` meets its contract. The invariant: q is the register after j turns. Assumes nothing.
-use mathlib.Core.Path.{◌≡◌}
-use Prim.Native.Nat.{◌-◌, ◌≤◌}
+-- `checksum::last_bits` meets its contract. The invariant: q is the register after the turns so far.
+use Rattle.std.proofs.Common.{◌≡◌}
 use Rattle.checksum.specs.Upper.{turns_up, taken_in}
 use Rattle.checksum.proofs.last_bits.Given as goal
 
-abbrev pub invariant-loop-j : goal.invariant-loop-j
-invariant-loop-j l = (l.j ≤ l.n) × (l.q ≡ turns_up l.j (taken_in l.r l.byte))
-
-abbrev pub decreases-loop-j : goal.decreases-loop-j
-decreases-loop-j l = l.n - l.j
+abbrev pub invariant-loop : goal.invariant-loop
+invariant-loop l = l.q ≡ turns_up l.counter (taken_in l.r l.byte)

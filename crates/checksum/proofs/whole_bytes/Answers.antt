@@ -1,27 +1,20 @@
--- `checksum::whole_bytes` meets its contract. The invariant: r is the register after k bytes. Assumes nothing.
-
-use mathlib.Core.Path.{◌≡◌, refl, ap, ◌∙◌}
-use Prim.Native.Nat.{ℕ, ◌+◌, ◌*◌}
-use native.Mathlib.Omega.{arith}
-use lib.ListN.{get_or}
-use borrow.Author.Rules.{rules}
+-- `checksum::whole_bytes` meets its contract. The invariant: r is the register after the bytes so far.
+use Rattle.std.proofs.Common.{◌≡◌, ◌+◌, ◌*◌, refl, arith}
+use Rattle.std.proofs.lemmas.List.{get_or-take, length-take}
 use Rattle.checksum.specs.Register.{register}
-use Rattle.checksum.specs.Upper.{upper, turns_up, taken_in}
+use Rattle.checksum.specs.Upper.{upper}
 use Rattle.checksum.proofs.Upper.{up_byte}
 use Rattle.checksum.proofs.whole_bytes.Goals as goal
 
-pub loop-k-init : goal.loop-k-init
+pub loop-byte-init : goal.loop-byte-init
 unfolding upper register
-loop-k-init c = (search rules, refl)
+loop-byte-init c = refl
 
-pub loop-k-preserved : goal.loop-k-preserved
-loop-k-preserved c =
-    let k = c.loop-k.k in
+pub loop-byte-preserved : goal.loop-byte-preserved
+loop-byte-preserved c =
+    let k = c.loop-byte.byte-index in
     let m = c.args.message.now in
-    let next : 8 * k + 8 ≡ 8 * (k + 1) = omega arith in (
-      search rules,
-      c.turn_byte-r.ensures
-          ∙ ap (turns_up 8) (c.take_in.ensures ∙ ap (λ (r : ℕ). taken_in r (get_or m k 0)) c.loop-k.invariant.1)
-          ∙ up_byte m k (omega (arith, c.type_inv.message k)) 7 (omega arith)
-          ∙ ap (λ (n : ℕ). upper (register m n)) next,
-    )
+    let whole : 8 * k + 8 ≡ 8 * (k + 1) = omega arith in
+    let here = get_or-take c.args.n m k 0 (omega (arith, length-take c.args.n m)) in
+    let taken = up_byte m k (omega (arith, c.type_inv.message k)) 7 (omega arith) in
+    rw (← whole) (cc)

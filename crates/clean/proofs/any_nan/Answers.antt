@@ -1,21 +1,15 @@
--- `clean::any_nan` meets its contract. The invariant: whether a NaN is among the values that are left is the answer.
-use mathlib.Core.Path.{refl, sym, ◌∙◌}
-use native.Mathlib.Omega.{arith}
-use Rattle.clean.proofs.Steps.{nan-here, nan-later, none_left}
+-- `clean::any_nan` meets its contract: `any` answers what the definition does, which goes through the values in the same way.
+use Rattle.std.proofs.Common.{rules, tests, refl, ◌∙◌, ◌||◌}
+use Rattle.std.specs.Float.Ieee.{is_nan}
+use Rattle.std.specs.List.{list_any}
+use Rattle.std.proofs.lemmas.Iterator.{YieldsList-from_slice}
+use Rattle.std.proofs.lemmas.Iterator.Search.{any_from_yields_List}
+use Rattle.std.proofs.lemmas.List.Recursion.{same_from_clauses}
+use Rattle.clean.specs.Clean.{any_nan}
 use Rattle.clean.proofs.any_nan.Goals as goal
 
-pub loop-i-init : goal.loop-i-init
-loop-i-init c = (omega arith, refl)
-
-pub returns-then-v : goal.returns-then-v
-returns-then-v c = sym (sym c.loop-i.invariant.1 ∙ nan-here _ _ c.loop-i-test.true c.if-v.true)
-
-pub loop-i-preserved : goal.loop-i-preserved
-loop-i-preserved c = (
-  omega (arith, c.loop-i-test.true),
-  sym (nan-later _ _ c.loop-i-test.true c.if-v.false)
-      ∙ c.loop-i.invariant.1,
-)
-
 pub returns : goal.returns
-returns c = none_left _ _ c.loop-i-test.false c.loop-i.invariant.0 c.loop-i.invariant.1
+unfolding any_nan
+returns c =
+    any_from_yields_List is_nan _ _ _ c.any.ensures.ran (YieldsList-from_slice c.args.values.now cc) (λ x b q k. search (rules, tests))
+    ∙ same_from_clauses (list_any is_nan) any_nan (λ x b. is_nan x || b) refl (λ _ _. refl) (λ _ _. refl) c.args.values.now

@@ -1,8 +1,8 @@
--- `clean_frames::frame_clean` meets its contract: each refusal by its test, and then the word of the frame as a number. Assumes nothing.
+-- `clean_frames::frame_clean` meets its contract: each refusal by its test, and then what is said of the frame. Assumes nothing.
 use mathlib.Core.Path.{sym, ap, ◌∙◌}
 use borrow.Author.Tests.{lt-ltb, le-ltb, eq-eqb, ne_eqb}
 use Rattle.batch.specs.Codes.{size_k}
-use Rattle.clean_frames.specs.Calls.{frame_refusals, clean_number}
+use Rattle.clean_frames.specs.Calls.{frame_refusals}
 use Rattle.clean_frames.proofs.frame_clean.Goals as goal
 
 pub returns-then-code-gt3 : goal.returns-then-code-gt3
@@ -24,16 +24,9 @@ pub is_clean-requires : goal.is_clean-requires
 unfolding size_k
 is_clean-requires c = λ h. c.if-bits-message_bits.false ∙ c.message_bits.ensures ∙ ap size_k h
 
-pub returns-then-is_clean : goal.returns-then-is_clean
-unfolding frame_refusals clean_number
-returns-then-is_clean c =
-    let values = eq-eqb _ _ (c.if-values-frame_values.false ∙ c.frame_values.ensures) in
-    let bits = eq-eqb _ _ (c.if-bits-message_bits.false ∙ c.message_bits.ensures) in
-    simp (le-ltb _ _ c.if-code-gt3.false, values, bits, sym c.is_clean.ensures ∙ c.if-is_clean.true)
-
 pub returns : goal.returns
-unfolding frame_refusals clean_number
+unfolding frame_refusals
 returns c =
     let values = eq-eqb _ _ (c.if-values-frame_values.false ∙ c.frame_values.ensures) in
     let bits = eq-eqb _ _ (c.if-bits-message_bits.false ∙ c.message_bits.ensures) in
-    simp (le-ltb _ _ c.if-code-gt3.false, values, bits, sym c.is_clean.ensures ∙ c.if-is_clean.false)
+    simp (le-ltb _ _ c.if-code-gt3.false, values, bits, c.is_clean.ensures)

@@ -7,7 +7,7 @@ use Rattle.coded.proofs.Signed.{minus_short, minus_read}
 use Rattle.coded.proofs.refusal_code.Goals as goal
 
 pub overflow_sub-result : goal.overflow_sub-result
-overflow_sub-result c = minus_short c.number-n.result (omega (arith, c.number-n.type_inv))
+overflow_sub-result c = minus_short c.from-n.result (omega (arith, c.from-n.type_inv))
 
 pub returns : goal.returns
-returns c = minus_read c.number-n.result (omega (arith, c.number-n.type_inv)) ∙ ap (λ (n : ℕ). neg_ℤ (pos n)) c.number-n.ensures
+returns c = minus_read c.from-n.result (omega (arith, c.from-n.type_inv)) ∙ ap (λ (n : ℕ). neg_ℤ (pos n)) c.from-n.ensures

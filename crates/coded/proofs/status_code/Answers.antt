@@ -3,8 +3,8 @@ use mathlib.Core.Path.{refl, ◌∙◌}
 use Rattle.coded.proofs.Signed.{read_back_lem}
 use Rattle.coded.proofs.status_code.Goals as goal
 
-pub returns-in-Done : goal.returns-in-Done
-returns-in-Done c = rw c.in-Done.is refl
+pub returns-in-Ok : goal.returns-in-Ok
+returns-in-Ok c = rw c.in-Ok.is refl
 
-pub returns-in-Refused : goal.returns-in-Refused
-returns-in-Refused c = rw c.in-Refused.is (read_back_lem (record { sfits = c.refusal_code.type_inv }) ∙ c.refusal_code.ensures)
+pub returns-in-Err : goal.returns-in-Err
+returns-in-Err c = rw c.in-Err.is (read_back_lem (record { sfits = c.refusal_code.type_inv }) ∙ c.refusal_code.ensures)

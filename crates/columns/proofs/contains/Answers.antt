@@ -1,13 +1,15 @@
--- `columns::contains` meets its contract. The invariant: the rows that are left hold the row where the column does. Assumes nothing.
-use Rattle.columns.proofs.Columns.{seek_found, seek-more, seek-done}
-use borrow.Author.Rules.{rules}
+-- `columns::contains` meets its contract: `any` makes the test of `holds`, one row after another.
+use Rattle.std.proofs.Common.{refl, ◌∙◌, ◌||◌, eqb, rules, tests}
+use Rattle.std.proofs.lemmas.Iterator.{YieldsList-from_slice}
+use Rattle.std.proofs.lemmas.Iterator.Search.{any_from_yields_List}
+use Rattle.std.proofs.lemmas.List.Recursion.{same_from_clauses}
+use Rattle.std.specs.List.{list_any}
+use Rattle.columns.specs.Rows.{holds}
 use Rattle.columns.proofs.contains.Goals as goal
 
-pub returns-then-column-i : goal.returns-then-column-i
-returns-then-column-i c = seek_found _ _ _ c.loop-i.invariant.1 c.loop-i-test.true c.if-column-i.true
-
-pub loop-i-preserved : goal.loop-i-preserved
-loop-i-preserved c = (search rules, seek-more _ _ _ c.loop-i.invariant.1 c.loop-i-test.true c.if-column-i.false)
-
 pub returns : goal.returns
-returns c = seek-done _ _ _ c.loop-i.invariant.1 c.loop-i-test.false
+unfolding holds
+returns c =
+    let r = c.args.r in
+    any_from_yields_List (λ q. eqb q r) _ _ _ c.any.ensures.ran (YieldsList-from_slice c.args.column.now cc) (λ x b q k. search (rules, tests))
+    ∙ same_from_clauses (list_any (λ q. eqb q r)) (λ l. holds l r) (λ q b. eqb q r || b) refl (λ q l. refl) (λ q l. refl) c.args.column.now

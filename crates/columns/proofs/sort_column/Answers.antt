@@ -1,6 +1,6 @@
--- `columns::sort_column` meets its contract: three stores to a list of three. Assumes nothing.
-use Rattle.columns.proofs.Columns.{three_stored}
+-- `columns::sort_column` meets its contract: the library's sort gives `sorted`.
+use Rattle.columns.proofs.Sorted.{sort_is}
 use Rattle.columns.proofs.sort_column.Goals as goal
 
 pub returns : goal.returns
-returns c = three_stored _ _ _ _ c.requires c.in_order-three.ensures
+returns c = let s = c.sort_unstable.ensures in sort_is _ _ s.permutation s.sorted

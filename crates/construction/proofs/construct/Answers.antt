@@ -6,9 +6,9 @@ use Rattle.construction.proofs.construct.Goals as goal
 pub construct_seeded-requires : goal.construct_seeded-requires
 construct_seeded-requires c =
     let pre = c.requires in
-    cleared_blank _ _ _ _ _ _ pre.rows_len pre.k_bound pre.loads_nonzero c.clear_loads.ensures c.clear_marks.ensures
+    cleared_blank _ _ _ _ _ _ pre.rows_len pre.k_bound pre.loads_nonzero (c.fill.ensures.after (λ y h. h)) (c.fill-2.ensures.after (λ y h. h))
 
 pub returns : goal.returns
 returns c =
-    let all = rw (c.clear_loads.ensures, length-replicate) at c.construct_seeded.ensures in
+    let all = rw (c.fill.ensures.after (λ y h. h), length-replicate) at c.construct_seeded.ensures in
     record { rows_after = all.rows; state_value = (all.state, all.relaxes) }

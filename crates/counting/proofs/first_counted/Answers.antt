@@ -3,7 +3,8 @@ use mathlib.Core.Path.{sym, ◌∙◌}
 use native.Mathlib.Omega.{arith}
 use Rattle.tanner.proofs.First.{zero-none, masked_adds}
 use Rattle.numbered.specs.Codes.{size_n, checks_by}
-use Rattle.numbered.proofs.Codes.{size_at, stair_code, stair_size, stair_checks}
+use Rattle.numbered.proofs.Codes.{stair_size, stair_checks}
+use Rattle.numbered.proofs.Numbers.{stair_number}
 use Rattle.counting.proofs.first_counted.Goals as goal
 
 pub returns-then-count-eq0 : goal.returns-then-count-eq0
@@ -11,14 +12,14 @@ returns-then-count-eq0 c = sym (zero-none _ _ (masked_adds _ _) 0 _ (sym c.requi
 
 pub first_low-requires : goal.first_low-requires
 unfolding size_n
-first_low-requires c = size_at _ 3 _ c.if-code-eq3.true c.requires.hard_len
+first_low-requires c = rw c.in-Ft8.is at c.requires.hard_len
 
-pub returns-then-code-eq3 : goal.returns-then-code-eq3
+pub returns-in-Ft8 : goal.returns-in-Ft8
 unfolding checks_by
-returns-then-code-eq3 c = rw c.if-code-eq3.true c.first_low.ensures
+returns-in-Ft8 c = rw c.in-Ft8.is c.first_low.ensures
 
 pub first-requires : goal.first-requires
-first-requires c = omega (arith, c.requires.hard_len, stair_size _ (stair_code _ c.requires.code_bound c.if-code-eq3.false))
+first-requires c = rw c.from.ensures (omega (arith, c.requires.hard_len, stair_size _ (stair_number _ c.in_default.not-Ft8)))
 
-pub returns : goal.returns
-returns c = rw (stair_checks _ (stair_code _ c.requires.code_bound c.if-code-eq3.false)) c.first.ensures
+pub returns-in_default : goal.returns-in_default
+returns-in_default c = rw (stair_checks _ (stair_number _ c.in_default.not-Ft8), ← c.from.ensures) c.first.ensures

@@ -6,7 +6,8 @@ use native.Mathlib.Omega.{arith}
 use lib.Ieee.{Float}
 use lib.ListN.{length, take, drop, replicate, length-replicate}
 use Rattle.refusal.specs.Outcome.{Outcome}
-use Rattle.refusal.specs.Answers.{status_of}
+use Rattle.refusal.specs.Answers.{outcome_of}
+use Rattle.refusal.proofs.Exits.{exit-by}
 use Rattle.refusal.proofs.Judged.{verdict, nothing, judged_accepted, judged_refused}
 use Rattle.softmath.specs.Single.{zero32}
 use Rattle.batch.specs.Codes.{size_k}
@@ -18,7 +19,7 @@ use Rattle.batch_input.specs.Handed.{batch_in, memory_for}
 use Rattle.batch_input.proofs.Room.{part_length, back}
 use Rattle.batch_input.proofs.Wellformed.{wellformed}
 use Rattle.batch_input.proofs.Handed.{accepted_few}
-use Rattle.decoded_input.specs.Fronts.{held, Fronts, sizes_of}
+use Rattle.decoded_input.specs.Fronts.{sizes_by, held, Fronts, sizes_of}
 use Rattle.decoded_input.proofs.Handed.{held_few, held_all, room-right, handed, handed-verdict, Outputs, handed-outputs, sizes_given}
 use Rattle.decoded_input.proofs.decode_fronts.Goals as goal
 
@@ -137,14 +138,14 @@ slice_bounds-decode_input-end-7 c =
 pub decode_input-requires : goal.decode_input-requires
 decode_input-requires c = (wellformed c.args.input.now c.requires.input_value).head
 
-pub returns-in-Refused : goal.returns-in-Refused
-returns-in-Refused c =
+pub returns-in_err-decode_input : goal.returns-in_err-decode_input
+returns-in_err-decode_input c =
     let s = c.args.input.now in
     let a = c.args in
     let n = c.frames_held-n.result in
     let k = c.message_bits.result in
     let n-is : n ≡ held (pair_count s) = c.frames_held-n.ensures ∙ ap held c.pair_count.ensures.value in
-    let o = status_of c.decode_input.result in
+    let o = outcome_of c.decode_input.result in
     let left = c.decode_input.new in
     let lent-parts = memory s n k n-is c.message_bits.ensures a.bits.now a.counts.now a.rounds.now a.firsts.now c.requires.in_bounds.0 c.requires.in_bounds.1
     c.requires.in_bounds_2.0 c.requires.in_bounds_2.1 in
@@ -156,10 +157,12 @@ returns-in-Refused c =
     c.requires.values_value.1
     c.decode_input.ensures) in
     let turned = found s n k n-is c.message_bits.ensures a.bits.now a.counts.now a.rounds.now a.firsts.now c.requires.in_bounds.0 c.requires.in_bounds.1
-    c.requires.in_bounds_2.0 c.requires.in_bounds_2.1 o left.bits left.counts left.rounds left.firsts left.work answered ∙ ap status_of c.in-Refused.is in
+    c.requires.in_bounds_2.0 c.requires.in_bounds_2.1 o left.bits left.counts left.rounds left.firsts left.work answered
+    ∙ ap outcome_of c.in_err-decode_input.was in
+    let told = exit-by c.from_residual.result _ c.from_residual.ensures.1 sizes_by in
     record {
-      result_value = sym (judged_refused (refusals (batch_in s)) (sizes_of s) _ turned);
-      fronts = λ e. let z : ◌≡◌ {A = ℕ} 0 1 = cc in absurd (omega arith);
+      result_value = told ∙ sym (judged_refused (refusals (batch_in s)) (sizes_of s) _ turned);
+      fronts = λ e. let z : ◌≡◌ {A = ℕ} 0 1 = cc (sym told ∙ e) in absurd (omega arith);
     }
 
 pub returns : goal.returns
@@ -169,7 +172,7 @@ returns c =
     let n = c.frames_held-n.result in
     let k = c.message_bits.result in
     let n-is : n ≡ held (pair_count s) = c.frames_held-n.ensures ∙ ap held c.pair_count.ensures.value in
-    let o = status_of c.decode_input.result in
+    let o = outcome_of c.decode_input.result in
     let left = c.decode_input.new in
     let lent-parts = memory s n k n-is c.message_bits.ensures a.bits.now a.counts.now a.rounds.now a.firsts.now c.requires.in_bounds.0 c.requires.in_bounds.1
     c.requires.in_bounds_2.0 c.requires.in_bounds_2.1 in
@@ -180,7 +183,7 @@ returns c =
     (subst (λ (ns : List ℕ). Answered (over a.values.now (pairs_of ns) lent-parts) o (lent left.bits left.counts left.rounds left.firsts left.work))
     c.requires.values_value.1
     c.decode_input.ensures) in
-    let ok : o ≡ nothing = ap status_of c.in_default.is in
+    let ok : o ≡ nothing = ap outcome_of c.in_ok-decode_input.was in
     let turned = found s n k n-is c.message_bits.ensures a.bits.now a.counts.now a.rounds.now a.firsts.now c.requires.in_bounds.0 c.requires.in_bounds.1
     c.requires.in_bounds_2.0 c.requires.in_bounds_2.1 o left.bits left.counts left.rounds left.firsts left.work answered ∙ ok in
     let all = all_held s n k n-is c.message_bits.ensures a.bits.now a.counts.now a.rounds.now a.firsts.now c.requires.in_bounds.0 c.requires.in_bounds.1

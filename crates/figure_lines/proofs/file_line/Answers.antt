@@ -23,7 +23,7 @@ refusal_line-requires c =
     let room1 : c.put_digits-a.result + 15 ≤ length c.put_digits-a.new.out =
     room_after _ 15 c.put_digits-a.ensures (digits_short _) (omega (arith, c.requires)) in
     let room2 : c.put_byte-b.result + 14 ≤ length c.put_byte-b.new.out = room_after 1 14 c.put_byte-b.ensures (omega arith) (omega (arith, room1)) in
-    omega (arith, room2, refusal_short c.number.result)
+    omega (arith, room2, refusal_short c.from.result)
 
 pub put_text-b-requires : goal.put_text-b-requires
 put_text-b-requires c =
@@ -46,7 +46,7 @@ returns-in-Refused c =
     rw c.in-Refused.is
     (then c.put_digits-a.ensures (digits-room _ _ _ (omega (arith, c.requires)))
     (then c.put_byte-b.ensures (omega (arith, room1))
-    (rw c.number.ensures at c.refusal_line.ensures)))
+    (rw c.from.ensures at c.refusal_line.ensures)))
 
 pub returns-in-Unreadable : goal.returns-in-Unreadable
 unfolding unreadable_line

@@ -24,6 +24,8 @@ returns-in_default-mean_count c =
 -- the line with the share a/b and the mean d/e
 pub returns : goal.returns
 returns c =
-    let share : Fraction = record { over = c.in-Fraction.a; under = c.in-Fraction.b } in
-    let mean : Fraction = record { over = c.in-Fraction-mean_count.d; under = c.in-Fraction-mean_count.e } in
-    rw (sym (with-figures c.args.t share mean c.in-Fraction.ensures c.in-Fraction-mean_count.ensures)) c.put_figures.ensures
+    let f = c.in-Ok.field-0 in
+    let g = c.in-Ok-mean_count.field-0 in
+    let share : Fraction = record { over = f.numerator; under = f.denominator } in
+    let mean : Fraction = record { over = g.numerator; under = g.denominator } in
+    rw (sym (with-figures c.args.t share mean c.in-Ok.ensures c.in-Ok-mean_count.ensures)) c.put_figures.ensures

@@ -2,13 +2,13 @@
 use Rattle.figure_report.proofs.Report.{unread-step, counted_step, refused-step}
 use Rattle.figure_report.proofs.add_file.Goals as goal
 
-pub returns-then-not-readable : goal.returns-then-not-readable
-returns-then-not-readable c = let a = c.args in rw c.if-not-readable.true (unread-step a.place a.total _ _ _ c.file_line-end.ensures)
+pub returns-in_default : goal.returns-in_default
+returns-in_default c = let a = c.args in rw c.in_default.is (unread-step a.place a.total _ _ _ c.file_line-end.ensures)
 
-pub returns-in-Is : goal.returns-in-Is
-returns-in-Is c = let a = c.args in rw c.if-not-readable.false (counted_step a.place a.total a.input.now _ _ c.in-Is.ensures)
+pub returns-in-Ok : goal.returns-in-Ok
+returns-in-Ok c = let a = c.args in rw c.in-Some.is (counted_step a.place a.total c.in-Some.input.now _ _ c.in-Ok.ensures)
 
-pub returns-in-Refused : goal.returns-in-Refused
-returns-in-Refused c =
+pub returns-in-Err : goal.returns-in-Err
+returns-in-Err c =
     let a = c.args in
-    rw c.if-not-readable.false (refused-step a.place a.total a.input.now _ _ _ c.in-Refused.r c.in-Refused.ensures c.file_line-end-in-Refused.ensures)
+    rw c.in-Some.is (refused-step a.place a.total c.in-Some.input.now _ _ _ c.in-Err.r c.in-Err.ensures c.file_line-end-in-Err.ensures)

@@ -1,13 +1,8 @@
 -- `filling::next_setting` meets its contract. The invariant: the lowest check of the rest is the lowest of all. Assumes nothing.
-use mathlib.Core.Path.{◌≡◌}
-use Prim.Native.Nat.{◌-◌, ◌<◌}
-use lib.ListN.{length}
+use Rattle.std.proofs.Common.{◌≡◌}
 use Rattle.tanner.specs.Flat.{rows_from, rows_of}
 use Rattle.filling.specs.Filling.{lowest}
 use Rattle.filling.proofs.next_setting.Given as goal
 
 abbrev pub invariant-loop-c : goal.invariant-loop-c
-invariant-loop-c l = (l.c < length l.starts) × (lowest (rows_from l.starts l.c l.flat) l.word ≡ lowest (rows_of l.starts l.flat) l.word)
-
-abbrev pub decreases-loop-c : goal.decreases-loop-c
-decreases-loop-c l = length l.starts - l.c
+invariant-loop-c l = lowest (rows_from l.starts l.c l.flat) l.word ≡ lowest (rows_of l.starts l.flat) l.word

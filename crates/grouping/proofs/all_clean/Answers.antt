@@ -1,18 +1,15 @@
--- `grouping::all_clean` meets its contract. The invariant: all are clean exactly if all that are left are. Assumes nothing.
-use mathlib.Core.Path.{sym, ◌∙◌}
-use native.Mathlib.Numerals.{add-one}
-use native.Mathlib.Omega.{arith}
-use Rattle.grouping.proofs.All.{all-open, all-next, all_none}
+-- `grouping::all_clean` meets its contract: `all` answers what the definition does, which goes through the frames in the same way.
+use Rattle.std.proofs.Common.{rules, tests, refl, ◌∙◌, ◌&&◌}
+use Rattle.std.specs.List.{list_all}
+use Rattle.std.proofs.lemmas.Iterator.{YieldsList-from_slice}
+use Rattle.std.proofs.lemmas.Iterator.Search.{all_from_yields_List}
+use Rattle.std.proofs.lemmas.List.Recursion.{same_from_clauses}
+use Rattle.grouping.specs.Grouping.{all}
 use Rattle.grouping.proofs.all_clean.Goals as goal
 
-pub returns-then-not-clean-i : goal.returns-then-not-clean-i
-returns-then-not-clean-i c =
-    sym (c.loop-i.invariant.1 ∙ all-open c.args.clean.now c.loop-i.i c.loop-i-test.true c.if-not-clean-i.true)
-
-pub loop-i-preserved : goal.loop-i-preserved
-loop-i-preserved c =
-    let rest = all-next c.args.clean.now c.loop-i.i c.loop-i-test.true c.if-not-clean-i.false in
-    (omega arith, c.loop-i.invariant.1 ∙ rw add-one rest)
-
 pub returns : goal.returns
-returns c = sym (c.loop-i.invariant.1 ∙ all_none c.args.clean.now c.loop-i.i c.loop-i-test.false)
+unfolding all
+returns c =
+    let clean = c.args.clean.now in
+    all_from_yields_List (λ t. t) _ _ _ c.all.ensures.ran (YieldsList-from_slice clean cc) (λ x b q k. search (rules, tests))
+    ∙ same_from_clauses (list_all (λ t. t)) all (λ t b. t && b) refl (λ _ _. refl) (λ _ _. refl) clean

@@ -2,7 +2,7 @@
 use mathlib.Core.Path.{◌≡◌}
 use mathlib.Core.Bool.{Bool}
 use mathlib.Core.List.{List}
-use Prim.Native.Nat.{ℕ, ◌≤◌, ◌-◌}
+use Prim.Native.Nat.{ℕ}
 use lib.Ieee.{Float}
 use lib.ListN.{length, take}
 use Rattle.batch.specs.Pairs.{pairs_of, frames_of}
@@ -16,8 +16,4 @@ frame_clean code values pairs counts bits = clean_of code (frames_of values (pai
 
 abbrev pub invariant-loop-j : goal.invariant-loop-j
 invariant-loop-j l =
-    (l.j ≤ length l.initial.clean) × (length l.clean ≡ length l.initial.clean)
-    × (take l.j l.clean ≡ take l.j (clean_from (frame_clean l.code l.values l.pairs l.counts l.bits) 0 (length l.initial.clean)))
-
-abbrev pub decreases-loop-j : goal.decreases-loop-j
-decreases-loop-j l = length l.initial.clean - l.j
+    take l.j l.clean ≡ take l.j (clean_from (frame_clean l.code l.values l.pairs l.counts l.bits) 0 (length l.initial.clean))

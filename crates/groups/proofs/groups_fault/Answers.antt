@@ -4,7 +4,7 @@ use mathlib.Core.List.{List}
 use Prim.Native.Nat.{ℕ}
 use lib.ListN.{length}
 use Rattle.refusal.specs.Outcome.{Condition}
-use Rattle.refusal.specs.Answers.{status_of}
+use Rattle.refusal.proofs.Exits.{exit}
 use Rattle.refusal.proofs.Judged.{verdict}
 use Rattle.batch.specs.Pairs.{pairs_of}
 use Rattle.batch.specs.Calls.{refusals_of}
@@ -13,11 +13,12 @@ use Rattle.grouping.specs.Grouping.{size_refusals}
 use Rattle.groups.proofs.Whole.{head-refused, head_passed}
 use Rattle.groups.proofs.groups_fault.Goals as goal
 
-pub returns-in-Refused : goal.returns-in-Refused
-returns-in-Refused c =
+pub returns-in_err-batch_fault : goal.returns-in_err-batch_fault
+returns-in_err-batch_fault c =
     let a = c.args in
     let head : List Condition = refusals_of a.code a.rule a.values (pairs_of a.pairs.now) a.room in
-    sym (head-refused head (length (pairs_of a.pairs.now)) a.sizes.now _ (sym c.batch_fault.ensures ∙ ap status_of c.in-Refused.is))
+    exit c.from_residual.result _ c.from_residual.ensures.1
+    ∙ sym (head-refused head (length (pairs_of a.pairs.now)) a.sizes.now _ (sym c.in_err-batch_fault.ensures))
 
 pub returns : goal.returns
 returns c =
@@ -25,4 +26,4 @@ returns c =
     let head : List Condition = refusals_of a.code a.rule a.values (pairs_of a.pairs.now) a.room in
     c.sizes_fault.ensures
     ∙ ap (λ (n : ℕ). verdict (size_refusals n a.sizes.now)) (sym (pairs-length a.pairs.now))
-    ∙ sym (head_passed head (length (pairs_of a.pairs.now)) a.sizes.now (sym c.batch_fault.ensures ∙ ap status_of c.in_default.is))
+    ∙ sym (head_passed head (length (pairs_of a.pairs.now)) a.sizes.now (sym c.in_ok-batch_fault.ensures))

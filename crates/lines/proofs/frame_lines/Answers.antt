@@ -52,13 +52,13 @@ front j n k K bits from h e b s =
     omega (arith, e, b, all, place-fits j n k h)
 
 pub loop-j-init : goal.loop-j-init
-loop-j-init c = (omega arith, sym (zero-mul _), rw sub-zero (left-all _ _ _))
+loop-j-init c = (sym (zero-mul _), rw sub-zero (left-all _ _ _))
 
 pub overflow_add-to : goal.overflow_add-to
 overflow_add-to c =
     let n = length (pairs_of c.args.pairs.now) in
     let place : c.loop-j.j < n = omega (arith, c.requires.counts_len.0) in
-    let end = front c.loop-j.j n c.message_bits-k.result (size_k c.args.code) c.args.bits.now c.loop-j.from place c.loop-j.invariant.1 c.requires.counts_len.1
+    let end = front c.loop-j.j n c.message_bits-k.result (size_k c.args.code) c.args.bits.now c.loop-j.from place c.loop-j.invariant.0 c.requires.counts_len.1
     c.message_bits-k.ensures in
     omega (arith, end)
 
@@ -80,16 +80,10 @@ frame_line-next-requires c =
     let fs = frames_of a.values.now (pairs_of a.pairs.now) in
     let place : j < n = omega (arith, c.requires.counts_len.0) in
     let same =
-    line-is a.code fs l j c.loop-j.from c.message_bits-k.result c.clean_at-clean.result c.loop-j.invariant.1 c.message_bits-k.ensures
+    line-is a.code fs l j c.loop-j.from c.message_bits-k.result c.clean_at-clean.result c.loop-j.invariant.0 c.message_bits-k.ensures
     c.clean_at-clean.ensures in
-    let free = fits a.code fs l n a.out.now a.at c.requires.pairs_in_bounds c.loop-j.out c.loop-j.next j place c.loop-j.invariant.2 in
+    let free = fits a.code fs l n a.out.now a.at c.requires.pairs_in_bounds c.loop-j.out c.loop-j.next j place c.loop-j.invariant.1 in
     omega (arith, ap length same, free)
-
-pub overflow_add-j : goal.overflow_add-j
-overflow_add-j c = omega (arith, c.requires.counts_len.0, c.requires.pairs_len_bound)
-
-pub loop-j-smaller : goal.loop-j-smaller
-loop-j-smaller c = omega (arith, c.requires.counts_len.0)
 
 pub loop-j-preserved : goal.loop-j-preserved
 loop-j-preserved c =
@@ -100,13 +94,12 @@ loop-j-preserved c =
     let l = lent a.bits.now a.counts.now a.rounds.now a.firsts.now [] in
     let fs = frames_of a.values.now (pairs_of a.pairs.now) in
     let place : j < n = omega (arith, c.requires.counts_len.0) in
-    let same = line-is a.code fs l j c.loop-j.from k c.clean_at-clean.result c.loop-j.invariant.1 c.message_bits-k.ensures c.clean_at-clean.ensures in
+    let same = line-is a.code fs l j c.loop-j.from k c.clean_at-clean.result c.loop-j.invariant.0 c.message_bits-k.ensures c.clean_at-clean.ensures in
     let next : (j + 1) * k ≡ j * k + k = ap (λ (x : ℕ). x * k) (add-one j) ∙ suc-mul j k in
     let here = rw same at c.frame_line-next.ensures in (
-      omega (arith, place),
-      omega (arith, c.loop-j.invariant.1, next),
+      omega (arith, c.loop-j.invariant.0, next),
       left_less _ _ _ _ _ _ _ _ _ (room a.code fs l n a.out.now a.at c.requires.pairs_in_bounds)
-          (left_here a.code fs l n a.out.now a.at c.requires.pairs_in_bounds c.loop-j.out c.loop-j.next j place c.loop-j.invariant.2) here,
+          (left_here a.code fs l n a.out.now a.at c.requires.pairs_in_bounds c.loop-j.out c.loop-j.next j place c.loop-j.invariant.1) here,
     )
 
 pub returns : goal.returns
@@ -116,4 +109,4 @@ returns c =
     let l = lent a.bits.now a.counts.now a.rounds.now a.firsts.now [] in
     let fs = frames_of a.values.now (pairs_of a.pairs.now) in
     let end : n ≤ c.loop-j.j = omega (arith, c.loop-j-test.false, c.requires.counts_len.0) in
-    left-none _ _ _ _ _ (rw (lines_none (line_at a.code fs l) c.loop-j.j n end) at c.loop-j.invariant.2)
+    left-none _ _ _ _ _ (rw (lines_none (line_at a.code fs l) c.loop-j.j n end) at c.loop-j.invariant.1)

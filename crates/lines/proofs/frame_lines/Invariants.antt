@@ -1,8 +1,5 @@
 -- `lines::frame_lines`, the invariant: with the lines that are left put where the loop stands, the buffer holds them all. Assumes nothing.
-use mathlib.Core.Path.{◌≡◌}
-use mathlib.Core.List.{[]}
-use Prim.Native.Nat.{◌-◌, ◌*◌, ◌≤◌}
-use lib.ListN.{length}
+use Rattle.std.proofs.Common.{◌≡◌, ◌-◌, ◌*◌, [], length}
 use Rattle.text.proofs.Put.{Left}
 use Rattle.batch.specs.Pairs.{pairs_of, frames_of}
 use Rattle.batch.specs.Calls.{lent}
@@ -13,7 +10,4 @@ abbrev pub invariant-loop-j : goal.invariant-loop-j
 invariant-loop-j l =
     let n = length (pairs_of l.pairs) in
     let line = line_at l.code (frames_of l.values (pairs_of l.pairs)) (lent l.bits l.counts l.rounds l.firsts []) in
-    (l.j ≤ n) × (l.from ≡ l.j * l.k) × Left l.initial.out l.at (lines_from line 0 n) l.out l.next (lines_from line l.j (n - l.j))
-
-abbrev pub decreases-loop-j : goal.decreases-loop-j
-decreases-loop-j l = length (pairs_of l.pairs) - l.j
+    (l.from ≡ l.j * l.k) × Left l.initial.out l.at (lines_from line 0 n) l.out l.next (lines_from line l.j (n - l.j))

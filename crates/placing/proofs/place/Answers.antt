@@ -1,8 +1,6 @@
--- `placing::place` meets its contract: the pick from the tables is the definition's, and it is marked. Assumes nothing.
-use native.Mathlib.Omega.{arith}
-use Rattle.picking.specs.Searches.{choice_of}
+-- `placing::place` meets its contract: the pick from the tables is the definition's, and it is marked.
+use Rattle.std.proofs.Common.{arith, rules}
 use Rattle.placing.proofs.Picks.{before_below, placed}
-use borrow.Author.Rules.{rules}
 use Rattle.placing.proofs.place.Goals as goal
 
 pub mark_together-requires : goal.mark_together-requires
@@ -19,5 +17,4 @@ pub returns : goal.returns
 returns c =
     let p = c.pick_row-taken in
     let pre = c.requires in
-    placed _ _ _ _ _ _ _ (choice_of p.result) pre.0 pre.1 p.ensures.result_value p.ensures.row_in_bounds.0 p.ensures.row_in_bounds.1
-    c.mark_together.auto.marks c.mark_together.ensures
+    placed _ _ _ _ _ _ _ p.result pre.0 pre.1 p.ensures.result_value p.ensures.row_in_bounds c.mark_together.auto.marks c.mark_together.ensures

@@ -7,39 +7,36 @@ use Rattle.lists.specs.Below.{Below}
 use Rattle.text.proofs.Put.{left-all, left_less, left-none}
 use Rattle.reason_lines.specs.Lines.{entries}
 use Rattle.reason_lines.proofs.Steps.{entries-more, entries_none}
-use borrow.Author.Rules.{rules}
 use Rattle.reason_lines.proofs.put_entries.Goals as goal
 
-pub loop-i-init : goal.loop-i-init
-loop-i-init c =
+pub loop-p-init : goal.loop-p-init
+loop-p-init c =
     let a = c.args in
-    (search rules, left-all a.out.now a.at (entries a.positions.now a.word.now))
+    left-all a.out.now a.at (entries a.positions.now a.word.now)
 
-pub bounds-word-k : goal.bounds-word-k
+pub bounds-word-p : goal.bounds-word-p
 unfolding Below
-bounds-word-k c = c.requires.below c.loop-i.i c.loop-i-test.true
+bounds-word-p c = c.requires.below c.loop-p.p-index c.loop-p-test.true
 
 -- in a turn: the entry that comes next, and those after it
 pub put_pair-next-requires : goal.put_pair-next-requires
 put_pair-next-requires c =
     let a = c.args in
-    let now = c.loop-i.invariant.1 in
-    let left = simp length-append at (ap length (entries-more a.positions.now a.word.now c.loop-i.i c.loop-i-test.true)) in
+    let now = c.loop-p.invariant in
+    let left = simp length-append at (ap length (entries-more a.positions.now a.word.now c.loop-p.p-index c.loop-p-test.true)) in
     omega (arith, now.end, now.size, c.requires.word_in_bounds)
 
-pub loop-i-preserved : goal.loop-i-preserved
-loop-i-preserved c =
+pub loop-p-preserved : goal.loop-p-preserved
+loop-p-preserved c =
     let a = c.args in
-    let now = c.loop-i in
-    let more = entries-more a.positions.now a.word.now now.i c.loop-i-test.true in (
-      search rules,
-      left_less a.out.now a.at (entries a.positions.now a.word.now) now.out now.next _ _ _ _ c.requires.word_in_bounds (rw more at now.invariant.1)
-          c.put_pair-next.ensures,
-    )
+    let now = c.loop-p in
+    let more = entries-more a.positions.now a.word.now now.p-index c.loop-p-test.true in
+    left_less a.out.now a.at (entries a.positions.now a.word.now) now.out now.next _ _ _ _ c.requires.word_in_bounds (rw more at now.invariant)
+    c.put_pair-next.ensures
 
 pub returns : goal.returns
 returns c =
     let a = c.args in
-    let now = c.loop-i in
-    let done = entries_none a.positions.now a.word.now now.i c.loop-i-test.false now.invariant.0 in
-    left-none a.out.now a.at (entries a.positions.now a.word.now) now.out now.next (rw done at now.invariant.1)
+    let now = c.loop-p in
+    let done = entries_none a.positions.now a.word.now now.p-index c.loop-p-test.false c.loop-p.auto.p-index-end in
+    left-none a.out.now a.at (entries a.positions.now a.word.now) now.out now.next (rw done at now.invariant)

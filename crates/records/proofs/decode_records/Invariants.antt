@@ -1,6 +1,4 @@
 -- `records::decode_records` meets its contract. The invariant: the first j frames are decoded. Assumes nothing.
-use Prim.Native.Nat.{◌-◌}
-use lib.ListN.{length}
 use Rattle.batch.specs.Calls.{lent, batch}
 use Rattle.batch.proofs.Frames.{Going}
 use Rattle.record_check.specs.Fields.{pairs_of}
@@ -12,6 +10,3 @@ invariant-loop-j l =
     (batch l.code l.rule l.limit l.scale l.values (pairs_of l.pairs)
     (lent l.initial.bits l.initial.counts l.initial.rounds l.initial.firsts l.initial.work))
     l.j (lent l.bits l.counts l.rounds l.firsts l.work)
-
-abbrev pub decreases-loop-j : goal.decreases-loop-j
-decreases-loop-j l = length l.pairs - l.j

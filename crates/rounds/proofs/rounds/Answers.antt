@@ -1,6 +1,6 @@
 -- `rounds::rounds` meets its contract. The invariant: whatever messages the work area held at first, what is kept is of the chosen word so far, the choice
 -- from here is the choice among all, and the rounds run with those ahead are all. Assumes nothing.
-use mathlib.Core.Path.{◌≡◌, ap, ◌∙◌}
+use mathlib.Core.Path.{◌≡◌, refl, ap, ◌∙◌}
 use mathlib.Core.List.{List}
 use Prim.Native.Nat.{ℕ, suc, ◌+◌, ◌-◌, ◌<◌}
 use native.Mathlib.Omega.{arith}
@@ -9,6 +9,7 @@ use lib.ListN.{length, take}
 use Rattle.tanner.specs.Checks.{Word}
 use Rattle.tanner.specs.Found.{syndrome_of}
 use Rattle.tanner.specs.declared.Counted.{Counted}
+use Rattle.numbered.specs.Numbers.{code_number}
 use Rattle.passes.specs.Codes.{checks_by}
 use Rattle.one_round.specs.Round.{Decode}
 use Rattle.rounds.specs.Rounds.{better}
@@ -22,17 +23,18 @@ off : (d : Decode) (m g k limit done : ℕ) (work : List Float) (bits : List ℕ
     → Running d m g k (limit - done) work bits kept done word all → Running d m g k (suc (limit - (done + 1))) work bits kept done word all
 off d m g k limit done work bits kept word all l s = let e : limit - done ≡ suc (limit - (done + 1)) = omega arith in rw e at s
 
-pub loop-done-preserved : goal.loop-done-preserved
-loop-done-preserved c =
-    let k = c.loop-done.invariant.3 in (
-      omega arith,
-      c.round-found.auto.messages ∙ c.loop-done.invariant.1,
-      c.round-found.auto.hard ∙ c.loop-done.invariant.2,
+pub loop-turn-preserved : goal.loop-turn-preserved
+loop-turn-preserved c =
+    let k = c.loop-turn.invariant.3 in (
+      refl,
+      c.round-found.auto.messages ∙ c.loop-turn.invariant.1,
+      c.round-found.auto.hard ∙ c.loop-turn.invariant.2,
       omega arith,
       λ ms h.
-          let s = off _ _ _ _ _ _ _ _ _ _ _ c.loop-done-test.true (c.loop-done.invariant.4 ms h) in
+          let s = off _ _ _ _ _ _ _ _ _ _ _ c.loop-turn-test.true (c.loop-turn.invariant.4 ms h) in
           let r = c.round-found.ensures.round_by s.ms s.holds in
-          let b : Kept (checks_by c.args.code) (length c.args.bits.now) (better (checks_by c.args.code) s.word c.round-found.new.hard) c.if-found-kept.bits
+          let b : Kept (checks_by (code_number c.args.code)) (length c.args.bits.now)
+          (better (checks_by (code_number c.args.code)) s.word c.round-found.new.hard) c.if-found-kept.bits
           c.if-found-kept.kept =
           elim c.if-found-kept.branch [
             | then-found-kept w ↦
@@ -44,19 +46,20 @@ loop-done-preserved c =
           round-on _ _ _ _ _ _ _ _ _ _ _ _ _ _ _ _ s r b c.if-found-eq0.false,
     )
 
-pub returns-after-loop-done : goal.returns-after-loop-done
-returns-after-loop-done c = λ ms h.
-    let e : c.args.limit - c.loop-done.done ≡ 0 = omega arith in
-    let out = rounds_out _ _ _ _ _ _ _ _ _ _ (rw e at (c.loop-done.invariant.4 ms h)) in
-    record { kept = out.0; rounds = out.1 }
+pub returns-after-loop-turn : goal.returns-after-loop-turn
+returns-after-loop-turn c = λ ms h.
+    let e : c.args.limit - c.loop-turn.turn ≡ 0 = omega arith in
+    let out = rounds_out _ _ _ _ _ _ _ _ _ _ (rw e at (c.loop-turn.invariant.4 ms h)) in
+    record { kept = out.0; rounds = c.loop-turn.invariant.0 ∙ out.1 }
 
 pub returns-then-found-eq0 : goal.returns-then-found-eq0
 returns-then-found-eq0 c =
-    let k = c.loop-done.invariant.3 in
+    let k = c.loop-turn.invariant.3 in
     λ ms h.
-    let s = off _ _ _ _ _ _ _ _ _ _ _ c.loop-done-test.true (c.loop-done.invariant.4 ms h) in
+    let s = off _ _ _ _ _ _ _ _ _ _ _ c.loop-turn-test.true (c.loop-turn.invariant.4 ms h) in
     let r = c.round-found.ensures.round_by s.ms s.holds in
-    let b : Kept (checks_by c.args.code) (length c.args.bits.now) (better (checks_by c.args.code) s.word c.round-found.new.hard) c.if-found-kept.bits
+    let b : Kept (checks_by (code_number c.args.code)) (length c.args.bits.now)
+    (better (checks_by (code_number c.args.code)) s.word c.round-found.new.hard) c.if-found-kept.bits
     c.if-found-kept.kept =
     elim c.if-found-kept.branch [
       | then-found-kept w ↦

@@ -1,26 +1,11 @@
 -- `slot_minima::see_column` meets its contract. The invariant: the messages so far are seen. Assumes nothing.
-use native.Mathlib.Omega.{arith}
 use lib.Ieee.{div, of_bits}
-use Rattle.slots.proofs.EachColumn.{place_inside}
 use Rattle.slot_minima.proofs.Seeing.{seen_none, seen_more, seen_all}
-use Rattle.slot_minima.proofs.see_column.Goals.{In-loop-j}
 use Rattle.slot_minima.proofs.see_column.Goals as goal
 
 pub loop-j-init : goal.loop-j-init
 unfolding div of_bits
 loop-j-init c = seen_none _ _ _ _
-
-pub overflow_mul-j : goal.overflow_mul-j
-overflow_mul-j c = omega (arith, (place_inside _ _ _ _ _ c.requires.0 c.requires.1 c.loop-j-test.true))
-
-pub overflow_add-j : goal.overflow_add-j
-overflow_add-j c = omega (arith, (place_inside _ _ _ _ _ c.requires.0 c.requires.1 c.loop-j-test.true))
-
-pub offset_bounds-work-j : goal.offset_bounds-work-j
-offset_bounds-work-j c = omega (arith, (place_inside _ _ _ _ _ c.requires.0 c.requires.1 c.loop-j-test.true))
-
-pub bounds-work-j : goal.bounds-work-j
-bounds-work-j c = omega (arith, (place_inside _ _ _ _ _ c.requires.0 c.requires.1 c.loop-j-test.true))
 
 pub loop-j-preserved : goal.loop-j-preserved
 loop-j-preserved c = seen_more _ _ _ _ _ _ _ c.loop-j-test.true (c.type_inv.work _) c.note-kept.ensures c.loop-j.invariant

@@ -1,13 +1,8 @@
 -- `slot_products::product_from` meets its contract. The invariant: the product so far, times the entries that are left, is the whole. Assumes nothing.
-use mathlib.Core.Path.{◌≡◌}
-use Prim.Native.Nat.{◌-◌}
-use lib.ListN.{drop}
+use Rattle.std.proofs.Common.{◌≡◌, drop}
 use Rattle.softmath.specs.Single.{◌⊗◌, fold_from}
 use Rattle.slots.specs.Columns.{column}
 use Rattle.slot_products.proofs.product_from.Given as goal
 
 abbrev pub invariant-loop-j : goal.invariant-loop-j
 invariant-loop-j l = fold_from ◌⊗◌ l.p (drop l.j (column l.m l.d l.c l.work)) ≡ fold_from ◌⊗◌ l.start (drop l.from (column l.m l.d l.c l.work))
-
-abbrev pub decreases-loop-j : goal.decreases-loop-j
-decreases-loop-j l = l.d - l.j

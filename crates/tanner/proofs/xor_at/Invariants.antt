@@ -1,12 +1,7 @@
 -- `tanner::xor_at` meets its contract. The invariant: what is XORed so far, with the rest XORed on, is the whole. Assumes nothing.
-use mathlib.Core.Path.{◌≡◌}
-use Prim.Native.Nat.{◌-◌, ◌≤◌}
-use lib.ListN.{length, drop}
+use Rattle.std.proofs.Common.{◌≡◌, drop}
 use Rattle.tanner.specs.Checks.{xor_from}
 use Rattle.tanner.proofs.xor_at.Given as goal
 
-abbrev pub invariant-loop-i : goal.invariant-loop-i
-invariant-loop-i l = (l.i ≤ length l.positions) × (xor_from l.x (drop l.i l.positions) l.bytes ≡ xor_from 0 l.positions l.bytes)
-
-abbrev pub decreases-loop-i : goal.decreases-loop-i
-decreases-loop-i l = length l.positions - l.i
+abbrev pub invariant-loop-p : goal.invariant-loop-p
+invariant-loop-p l = xor_from l.x (drop l.p-index l.positions) l.bytes ≡ xor_from 0 l.positions l.bytes
