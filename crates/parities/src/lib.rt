@@ -59,11 +59,14 @@ fn fill(code: u32, codeword: &mut [u8])
 }
 
 // The message bytes, whole, at the front of the codeword.
+// Stays a loop: `copy_from_slice` is C's `memmove` here, which the archive asks of no host.
 fn copy_message(message: &[u8], codeword: &mut [u8])
     requires { length message.now ≤ length codeword.old }
     ensures { codeword.new ≡ message.now ++ drop (length message.now) codeword.old }
 {
-    codeword[..message.len()].copy_from_slice(message);
+    for (i, &byte) in message.iter().enumerate() {
+        codeword[i] = byte;
+    }
 }
 
 // The codeword of a message of K bytes, whose low bits are its bits.
